@@ -1,0 +1,67 @@
+// The codes of document 01: what an entry says of its input, and the number that goes with it.
+ghost use mathlib.Core.Path.{_≡_};
+ghost use Rattle.code.specs.Code.{codeOf, numberOf};
+
+pub enum Code {
+    Done,
+    VlqLeftover,
+    VlqOverflow,
+    BadSegmentSize(u32),
+    BadSourceReference(u32),
+    BadNameReference(u32),
+    WideValue(u32),
+    TableFull,
+    NoRoom(u64),
+    LineGoesBack(u32),
+    BadChunk,
+    BadTable,
+    TooBig(u32),
+    MoreThanOneSource,
+    BadNames,
+}
+
+// The code's number in document 01's table.
+pub fn code_of(c: Code) -> u64
+    ensures { λ r. ⌜ r ≡ codeOf c ⌝ }
+{
+    match c {
+        Code::Done => 0,
+        Code::VlqLeftover => 1,
+        Code::VlqOverflow => 2,
+        Code::BadSegmentSize(_) => 3,
+        Code::BadSourceReference(_) => 4,
+        Code::BadNameReference(_) => 5,
+        Code::WideValue(_) => 6,
+        Code::TableFull => 7,
+        Code::NoRoom(_) => 8,
+        Code::LineGoesBack(_) => 9,
+        Code::BadChunk => 10,
+        Code::BadTable => 11,
+        Code::TooBig(_) => 12,
+        Code::MoreThanOneSource => 13,
+        Code::BadNames => 14,
+    }
+}
+
+// The number that goes with the code; 0 where the table lists none.
+pub fn number_of(c: Code) -> u64
+    ensures { λ r. ⌜ r ≡ numberOf c ⌝ }
+{
+    match c {
+        Code::Done => 0,
+        Code::VlqLeftover => 0,
+        Code::VlqOverflow => 0,
+        Code::BadSegmentSize(n) => n as u64,
+        Code::BadSourceReference(n) => n as u64,
+        Code::BadNameReference(n) => n as u64,
+        Code::WideValue(n) => n as u64,
+        Code::TableFull => 0,
+        Code::NoRoom(n) => n,
+        Code::LineGoesBack(n) => n as u64,
+        Code::BadChunk => 0,
+        Code::BadTable => 0,
+        Code::TooBig(n) => n as u64,
+        Code::MoreThanOneSource => 0,
+        Code::BadNames => 0,
+    }
+}

@@ -1,0 +1,62 @@
+-- Document 01, "Token tables": a token is six 32-bit numbers, a table a lent list of such numbers. Assumes nothing.
+use mathlib.Core.Bool.{Bool, true}
+use mathlib.Core.List.{List, [], _∷_, _++_}
+use Prim.Native.Nat.{ℕ, zero, suc, _+_, _*_, _/_, _%_}
+use lib.Dec.{eqb, ltb}
+use lib.ListN.{length, getD}
+use Rattle.list.specs.Memory.{onto, blit}
+use Rattle.list.specs.Pick.{pick}
+use Rattle.token.specs.declared.Token.{Token}
+
+-- as an id: none
+abbrev pub none : ℕ
+none = 4294967295
+
+-- the numbers of a token, in order: this list and its length alone say how many there are
+abbrev pub row : Token → List ℕ
+row t = t .«dst_line» ∷ t .«dst_col» ∷ t .«src_line» ∷ t .«src_col» ∷ t .«source_id» ∷ t .«name_id» ∷ []
+
+abbrev pub width : ℕ
+width = 6
+
+-- as output: the tokens that so many numbers have room for
+abbrev pub places : ℕ → ℕ
+places numbers = numbers / width
+
+-- as input: the length must be a multiple of six, and there may be 4,294,967,294 tokens at the most
+abbrev pub badTable : ℕ → Bool
+badTable numbers = pick (eqb (numbers % width) 0) (ltb 4294967294 (places numbers)) true
+
+-- the i-th token of a table
+unfoldable pub tokenAt : List ℕ → ℕ → Token
+tokenAt xs i =
+    record {
+      «dst_line» = getD xs (width * i) 0;
+      «dst_col» = getD xs (width * i + 1) 0;
+      «src_line» = getD xs (width * i + 2) 0;
+      «src_col» = getD xs (width * i + 3) 0;
+      «source_id» = getD xs (width * i + 4) 0;
+      «name_id» = getD xs (width * i + 5) 0;
+    }
+
+-- n tokens of a table, from the i-th on
+unfoldable pub tokensFrom : List ℕ → ℕ → ℕ → List Token
+tokensFrom xs i zero = []
+tokensFrom xs i (suc n) = tokenAt xs i ∷ tokensFrom xs (i + 1) n
+
+-- the tokens of a table
+abbrev pub tokensOf : List ℕ → List Token
+tokensOf xs = tokensFrom xs 0 (places (length xs))
+
+-- the table with t as its i-th token
+unfoldable pub putToken : List ℕ → ℕ → Token → List ℕ
+putToken xs i t = blit xs (width * i) (row t)
+
+-- tokens as numbers
+unfoldable pub flat : List Token → List ℕ
+flat [] = []
+flat (t ∷ ts) = row t ++ flat ts
+
+-- the table with ts as its first tokens; past them, and past its last whole token, what xs has there
+abbrev pub over : List Token → List ℕ → List ℕ
+over ts xs = onto (flat ts) xs

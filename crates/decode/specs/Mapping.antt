@@ -1,0 +1,53 @@
+-- Document 01, "Mappings": a whole text, into a table with so many places. Assumes nothing.
+use mathlib.Core.Path.{_≡_}
+use mathlib.Core.List.{List, [], _∷_}
+use Prim.Native.Nat.{ℕ, zero, suc}
+use lib.ListN.{length}
+use Rattle.code.specs.declared.Code.{Code}
+use Rattle.token.specs.Table.{places, over}
+use Rattle.token.specs.declared.Token.{Token}
+use Rattle.value.specs.declared.Mode.{Mode}
+use Rattle.decode.specs.declared.State.{State}
+use Rattle.decode.specs.declared.Step.{Step}
+use Rattle.decode.specs.declared.Decoded.{Decoded}
+use Rattle.decode.specs.Step.{start, stepAt}
+
+-- the tokens before the refused segment, the code, and where that segment begins (the text's length when done)
+pub record Out : Type 0 where
+  pub tokens : List Token
+  pub code : Code
+  pub offset : ℕ
+
+abbrev pub stopped : Code → ℕ → Out
+stopped code offset = record { tokens = []; code = code; offset = offset }
+
+abbrev pub ahead : Token → Out → Out
+ahead t o = record { tokens = t ∷ o .tokens; code = o .code; offset = o .offset }
+
+-- 6. no place left
+abbrev pub full : ℕ → Step → Out
+full end (Step.Put t begin s) = stopped Code.TableFull begin
+full end (Step.Refuse code offset) = stopped code offset
+full end Step.Done = stopped Code.Done end
+
+-- a place left
+abbrev pub placed : ℕ → Step → (State → Out) → Out
+placed end (Step.Put t begin s) go = ahead t (go s)
+placed end (Step.Refuse code offset) go = stopped code offset
+placed end Step.Done go = stopped Code.Done end
+
+-- the text from the state's place on, with so many places left
+unfoldable pub run : Mode → ℕ → ℕ → List ℕ → ℕ → State → Out
+run mode sources names text zero s = full (length text) (stepAt mode sources names text s)
+run mode sources names text (suc left) s = placed (length text) (stepAt mode sources names text s) (run mode sources names text left)
+
+abbrev pub decoded : Mode → ℕ → ℕ → List ℕ → ℕ → Out
+decoded mode sources names text room = run mode sources names text room start
+
+abbrev pub answer : Out → Decoded
+answer o = record { code = o .code; tokens = length (o .tokens); offset = o .offset }
+
+-- a decode's answer, and what the lent table holds then: the tokens, and past them what it held before
+pub record Decodes (mode : Mode) (sources names : ℕ) (text table : List ℕ) (r : Decoded) (table′ : List ℕ) : Type 0 where
+  pub says : r ≡ answer (decoded mode sources names text (places (length table)))
+  pub wrote : table′ ≡ over (decoded mode sources names text (places (length table)) .tokens) table

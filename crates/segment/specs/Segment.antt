@@ -1,0 +1,70 @@
+-- Document 01, "Mappings": all values of a segment, up to a delimiter or the end. Assumes nothing.
+use mathlib.Core.List.{List, [], _∷_, _++_}
+use Prim.Native.Nat.{ℕ, zero, suc, _+_, _-_}
+use lib.IntN.{ℤ, pos}
+use lib.ListN.{length, take, drop}
+use Rattle.value.specs.Value.{valueOf}
+use Rattle.value.specs.declared.Mode.{Mode}
+use Rattle.vlq.specs.Vlq.{vlqOf}
+use Rattle.vlq.specs.declared.Vlq.{Vlq}
+use Rattle.vlq.specs.declared.Vlq.the-variants.{End, Value, Leftover, Overflow}
+use Rattle.segment.specs.declared.Ending.{Ending}
+use Rattle.segment.specs.declared.Segment.{Segment}
+
+-- a field: its value, and the place where it begins
+pub record Field : Type 0 where
+  pub value : ℤ
+  pub start : ℕ
+
+-- the fields of a segment and the place after them, or the place where one broke
+pub data Fields : Type 0 where
+  whole : List Field → ℕ → Fields
+  leftover : ℕ → Fields
+  overflow : ℕ → Fields
+
+abbrev pub before : Field → Fields → Fields
+before f (whole fs next) = whole (f ∷ fs) next
+before f (leftover at) = leftover at
+before f (overflow at) = overflow at
+
+abbrev pub after : Mode → ℕ → Vlq → (ℕ → Fields) → Fields
+after mode at End go = whole [] at
+after mode at (Value bits lost next) go = before (record { value = valueOf mode bits lost; start = at }) (go next)
+after mode at (Leftover place) go = leftover place
+after mode at (Overflow place) go = overflow place
+
+-- the fields of the bytes past the first `skip`, which stand at the place `at`
+unfoldable pub fieldsFrom : Mode → ℕ → ℕ → List ℕ → Fields
+fieldsFrom mode zero at [] = whole [] at
+fieldsFrom mode (suc skip) at [] = whole [] at
+fieldsFrom mode zero at (b ∷ bs) = after mode at (vlqOf at (b ∷ bs)) (λ next. fieldsFrom mode (next - (at + 1)) (at + 1) bs)
+fieldsFrom mode (suc skip) at (b ∷ bs) = fieldsFrom mode skip (at + 1) bs
+
+abbrev pub values : List Field → List ℤ
+values [] = []
+values (f ∷ fs) = f .value ∷ values fs
+
+abbrev pub starts : List Field → List ℕ
+starts [] = []
+starts (f ∷ fs) = f .start ∷ starts fs
+
+abbrev pub zeros : List ℤ
+zeros = pos 0 ∷ pos 0 ∷ pos 0 ∷ pos 0 ∷ pos 0 ∷ []
+
+abbrev pub zerosℕ : List ℕ
+zerosℕ = 0 ∷ 0 ∷ 0 ∷ 0 ∷ 0 ∷ []
+
+-- a segment of which a value broke
+abbrev pub brokenAt : Ending → ℕ → Segment
+brokenAt end at = record { end = end; nums = zeros; starts = zerosℕ; count = 0; next = at }
+
+-- the first five fields, 0 where there are fewer, and how many there are in truth
+abbrev pub segmentOf : Fields → Segment
+segmentOf (whole fs next) =
+    record { end = Ending.Whole; nums = take 5 (values fs ++ zeros); starts = take 5 (starts fs ++ zerosℕ); count = length fs; next = next }
+segmentOf (leftover at) = brokenAt (Ending.Leftover at) at
+segmentOf (overflow at) = brokenAt (Ending.Overflow at) at
+
+-- the segment at a place of a text
+unfoldable pub segmentAt : Mode → List ℕ → ℕ → Segment
+segmentAt mode text at = segmentOf (fieldsFrom mode 0 at (drop at text))

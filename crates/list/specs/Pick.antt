@@ -5,3 +5,6 @@ use mathlib.Core.Bool.{Bool, true, false}
 abbrev pub pick {ℓ} : {A : Type ℓ} → Bool → A → A → A
 pick true a b = a
 pick false a b = b
+
+abbrev pub both : Bool → Bool → Bool
+both a b = pick a b false

@@ -12,6 +12,9 @@ use Rattle.token.specs.declared.Token.{Token}
 abbrev pub none : ℕ
 none = 4294967295
 
+abbrev pub isNone : ℕ → Bool
+isNone id = eqb id none
+
 -- the numbers of a token, in order: this list and its length alone say how many there are
 abbrev pub row : Token → List ℕ
 row t = t .«dst_line» ∷ t .«dst_col» ∷ t .«src_line» ∷ t .«src_col» ∷ t .«source_id» ∷ t .«name_id» ∷ []

@@ -1,0 +1,141 @@
+-- Document 01, "Lookup and composing": two maps into one. Assumes nothing.
+use mathlib.Core.Path.{_≡_}
+use mathlib.Core.Bool.{Bool, true, false}
+use mathlib.Core.List.{List, [], _∷_, _++_}
+use mathlib.Core.Option.{Option, none, some}
+use Prim.Native.Nat.{ℕ, zero, suc, _+_}
+use lib.Dec.{eqb, ltb}
+use lib.ListN.{length}
+use Rattle.list.specs.Memory.{onto}
+use Rattle.list.specs.Pick.{pick}
+use Rattle.code.specs.Code.{codeOf}
+use Rattle.code.specs.declared.Code.{Code}
+use Rattle.token.specs.Table.{isNone, places, badTable, tokenAt, tokensOf, over}
+use Rattle.token.specs.declared.Token.{Token}
+use Rattle.lookup.specs.Lookup.{lookupOf}
+use Rattle.names.specs.Names.{NameList, count, sound, nameAt, same}
+use Rattle.compose.specs.declared.Composed.{Composed}
+
+-- as an id: none
+abbrev pub noId : ℕ
+noId = 4294967295
+
+-- the first of n names, from the k-th on, with these bytes
+unfoldable pub firstName : NameList → List ℕ → ℕ → ℕ → Option ℕ
+firstName l name k zero = none
+firstName l name k (suc n) = pick (same (nameAt l k) name) (some k) (firstName l name (k + 1) n)
+
+-- the first place, from j on, of the added outer names with these bytes
+unfoldable pub firstAdded : NameList → List ℕ → ℕ → List ℕ → Option ℕ
+firstAdded outer name j [] = none
+firstAdded outer name j (id ∷ ids) = pick (same (nameAt outer id) name) (some j) (firstAdded outer name (j + 1) ids)
+
+-- a name id, and the added names once it is given
+pub record Named : Type 0 where
+  pub id : ℕ
+  pub added : List ℕ
+
+-- else inner count plus its place among the added names, added on first use
+abbrev pub amongAdded : NameList → List ℕ → ℕ → Option ℕ → Named
+amongAdded inner added id (some j) = record { id = count inner + j; added = added }
+amongAdded inner added id none = record { id = count inner + length added; added = added ++ (id ∷ []) }
+
+-- the first inner name with equal bytes
+abbrev pub amongInner : NameList → NameList → List ℕ → ℕ → Option ℕ → Named
+amongInner inner outer added id (some k) = record { id = k; added = added }
+amongInner inner outer added id none = amongAdded inner added id (firstAdded outer (nameAt outer id) 0 added)
+
+-- the outer name's id; an outer name id past its list gives no name
+unfoldable pub outerNamed : NameList → NameList → List ℕ → ℕ → Named
+outerNamed inner outer added id =
+    pick (ltb id (count outer)) (amongInner inner outer added id (firstName inner (nameAt outer id) 0 (count inner)))
+    (record { id = noId; added = added })
+
+-- a token of the result, and the added names once it is made
+pub record Made : Type 0 where
+  pub token : Token
+  pub added : List ℕ
+
+-- unmapped: source position 0, 0, no ids
+abbrev pub unmapped : Token → List ℕ → Made
+unmapped t added =
+    record {
+      token = record { «dst_line» = t .«dst_line»; «dst_col» = t .«dst_col»; «src_line» = 0; «src_col» = 0; «source_id» = noId; «name_id» = noId };
+      added = added;
+    }
+
+-- source position and id of the found token o
+abbrev pub mappedTo : Token → Token → Named → Made
+mappedTo t o n =
+    record {
+      token = record {
+        «dst_line» = t .«dst_line»;
+        «dst_col» = t .«dst_col»;
+        «src_line» = o .«src_line»;
+        «src_col» = o .«src_col»;
+        «source_id» = o .«source_id»;
+        «name_id» = n .id;
+      };
+      added = n .added;
+    }
+
+-- its name id if it has one, within the inner list or not, else the outer name's id
+abbrev pub found : NameList → NameList → List ℕ → List ℕ → Token → Option ℕ → Made
+found inner outer table added t none = unmapped t added
+found inner outer table added t (some i) =
+    pick (isNone (tokenAt table i .«source_id»)) (unmapped t added)
+    (mappedTo t (tokenAt table i)
+    (pick (isNone (tokenAt table i .«name_id»)) (outerNamed inner outer added (t .«name_id»)) (record { id = tokenAt table i .«name_id»; added = added })))
+
+-- one outer token, over the inner table
+unfoldable pub madeOf : NameList → NameList → List ℕ → List ℕ → Token → Made
+madeOf inner outer table added t =
+    pick (isNone (t .«source_id»)) (unmapped t added)
+    (found inner outer table added t (lookupOf table (t .«src_line») (t .«src_col»)))
+
+-- the result's tokens, and the outer ids of the added names
+pub record Result : Type 0 where
+  pub tokens : List Token
+  pub added : List ℕ
+
+abbrev pub ahead : Token → Result → Result
+ahead t r = record { tokens = t ∷ r .tokens; added = r .added }
+
+unfoldable pub composedFrom : NameList → NameList → List ℕ → List ℕ → List Token → Result
+composedFrom inner outer table added [] = record { tokens = []; added = added }
+composedFrom inner outer table added (t ∷ ts) =
+    ahead (madeOf inner outer table added t .token) (composedFrom inner outer table (madeOf inner outer table added t .added) ts)
+
+-- what is composed: the outer table, its source count and names, and the inner table and names
+pub record Maps : Type 0 where
+  pub outer : List ℕ
+  pub sources : ℕ
+  pub outerNames : NameList
+  pub inner : List ℕ
+  pub innerNames : NameList
+
+abbrev pub resultOf : Maps → Result
+resultOf m = composedFrom (m .innerNames) (m .outerNames) (m .inner) [] (tokensOf (m .outer))
+
+abbrev pub refused : Code → Composed
+refused code = record { code = code; added = 0 }
+
+-- the tests in order, with room for so many numbers of the result and so many added names
+unfoldable pub composed : Maps → ℕ → ℕ → Composed
+composed m numbers room =
+    pick (ltb 1 (m .sources)) (refused Code.MoreThanOneSource)
+    (pick (badTable (length (m .outer))) (refused Code.BadTable)
+    (pick (badTable (length (m .inner))) (refused Code.BadTable)
+    (pick (sound (m .outerNames))
+    (pick (sound (m .innerNames))
+    (pick (ltb (places numbers) (places (length (m .outer)))) (refused Code.TableFull)
+    (pick (ltb room (count (m .outerNames))) (refused (Code.NoRoom (count (m .outerNames))))
+    (record { code = Code.Done; added = length (resultOf m .added) })))
+    (refused Code.BadNames))
+    (refused Code.BadNames))))
+
+-- a composition's answer, and what the lent result and the lent list of added names hold then
+pub record Composes (m : Maps) (result added : List ℕ) (r : Composed) (result′ added′ : List ℕ) : Type 0 where
+  pub says : r ≡ composed m (length result) (length added)
+  pub wrote : result′ ≡ pick (eqb (codeOf (composed m (length result) (length added) .code)) 0) (over (resultOf m .tokens) result) result
+  pub listed : added′ ≡ pick (eqb (codeOf (composed m (length result) (length added) .code)) 0) (onto (resultOf m .added) added) added

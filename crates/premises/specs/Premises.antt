@@ -1,0 +1,35 @@
+-- Demand 3's premises on a token table, as a test that computes. Assumes nothing.
+use mathlib.Core.Bool.{Bool, true}
+use mathlib.Core.List.{List, [], _∷_}
+use Prim.Native.Nat.{ℕ}
+use lib.Dec.{eqb, leb, ltb}
+use Rattle.list.specs.Pick.{pick, both}
+use Rattle.token.specs.Table.{isNone}
+use Rattle.token.specs.declared.Token.{Token}
+
+-- an id is none or below its count
+abbrev pub idWithin : ℕ → ℕ → Bool
+idWithin count id = pick (isNone id) true (ltb id count)
+
+-- the token may stand after a token on `line`, where the latest token with a source had the source position srcLine, srcCol:
+-- its line does not go back, its ids are none or below the counts, it has no name without a source, and without a source
+-- it repeats that source position
+unfoldable pub follows : ℕ → ℕ → ℕ → ℕ → ℕ → Token → Bool
+follows sources names line srcLine srcCol t =
+    both (leb line (t .«dst_line»))
+    (both (idWithin sources (t .«source_id»))
+    (both (idWithin names (t .«name_id»))
+    (pick (isNone (t .«source_id»)) (both (isNone (t .«name_id»)) (both (eqb (t .«src_line») srcLine) (eqb (t .«src_col») srcCol))) true)))
+
+unfoldable pub follow : ℕ → ℕ → ℕ → ℕ → ℕ → List Token → Bool
+follow sources names line srcLine srcCol [] = true
+follow sources names line srcLine srcCol (t ∷ ts) =
+    both (follows sources names line srcLine srcCol t)
+    (follow sources names (t .«dst_line»)
+    (pick (isNone (t .«source_id»)) srcLine (t .«src_line»))
+    (pick (isNone (t .«source_id»)) srcCol (t .«src_col»))
+    ts)
+
+-- from the start: line 0, and the source position 0, 0 before any
+abbrev pub premises : ℕ → ℕ → List Token → Bool
+premises sources names ts = follow sources names 0 0 0 ts

@@ -1,0 +1,1 @@
+// Whether a table meets the premises under which what is written reads back.

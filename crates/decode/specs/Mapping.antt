@@ -7,10 +7,10 @@ use Rattle.code.specs.declared.Code.{Code}
 use Rattle.token.specs.Table.{places, over}
 use Rattle.token.specs.declared.Token.{Token}
 use Rattle.value.specs.declared.Mode.{Mode}
-use Rattle.decode.specs.declared.State.{State}
-use Rattle.decode.specs.declared.Step.{Step}
+use Rattle.apply.specs.declared.State.{State}
+use Rattle.step.specs.declared.Step.{Step}
 use Rattle.decode.specs.declared.Decoded.{Decoded}
-use Rattle.decode.specs.Step.{start, stepAt}
+use Rattle.step.specs.Step.{start, stepAt}
 
 -- the tokens before the refused segment, the code, and where that segment begins (the text's length when done)
 pub record Out : Type 0 where

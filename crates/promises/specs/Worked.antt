@@ -11,7 +11,8 @@ use Rattle.value.specs.declared.Mode.{Mode}
 use Rattle.vlq.specs.Vlq.{digitsFrom, vlqOf}
 use Rattle.segment.specs.Segment.{fieldsFrom}
 use Rattle.sums.specs.Sums.{reducedOf, sumOf, idOf, nameSumOf}
-use Rattle.decode.specs.Step.{columned, mapped, named, applied, offsetOf, segmentStep, stepFrom}
+use Rattle.apply.specs.Apply.{columned, mapped, named, applied}
+use Rattle.step.specs.Step.{offsetOf, segmentStep, stepFrom}
 use Rattle.decode.specs.Mapping.{Out, run, decoded}
 
 abbrev token : ℕ → ℕ → ℕ → ℕ → ℕ → ℕ → Token

@@ -1,0 +1,118 @@
+-- Document 01, "Mappings": what one segment does, step by step. Assumes nothing.
+use Prim.Native.Nat.{ℕ, _%_, _^_, _≤_}
+use lib.Dec.{eqb, ltb}
+use lib.IntN.{ℤ, pos, natAbs, _+ℤ_}
+use lib.ListN.{getD}
+use Rattle.list.specs.Pick.{pick}
+use Rattle.code.specs.declared.Code.{Code}
+use Rattle.token.specs.Table.{none}
+use Rattle.token.specs.declared.Token.{Token}
+use Rattle.value.specs.declared.Mode.{Mode}
+use Rattle.segment.specs.declared.Segment.{Segment}
+use Rattle.sums.specs.Sums.{sumOf, idOf, nameSumOf}
+use Rattle.sums.specs.declared.Kept.{Kept}
+use Rattle.sums.specs.declared.Id.{Id}
+use Rattle.apply.specs.declared.State.{State}
+use Rattle.apply.specs.declared.About.{About}
+use Rattle.apply.specs.declared.Moved.{Moved}
+use Rattle.apply.specs.declared.Applied.{Applied}
+
+-- a sum that is kept goes on; below 0 is BadSegmentSize(0), too wide is WideValue with the field
+abbrev pub kept : Kept → ℕ → (ℕ → Moved) → Moved
+kept Kept.Negative field go = Moved.No (Code.BadSegmentSize 0) (About.Field field)
+kept Kept.Wide field go = Moved.No (Code.WideValue field) (About.Field field)
+kept (Kept.At n) field go = go n
+
+-- a field of the segment
+abbrev pub num : ℕ → Segment → ℤ
+num field g = getD (g .nums) field (pos 0)
+
+-- every value lies from -2^62 to 2^62
+pub record Small (g : Segment) : Type 0 where
+  pub small : (field : ℕ) → natAbs (num field g) ≤ 2 ^ 62
+
+-- 1. the column
+unfoldable pub columned : Mode → State → Segment → Moved
+columned mode s g =
+    kept (sumOf mode (pos (s .«dst_col») +ℤ num 0 g)) 0 λ column. Moved.To (record {
+      «dst_line» = s .«dst_line»;
+      «dst_col» = column;
+      «src_line» = s .«src_line»;
+      «src_col» = s .«src_col»;
+      «source_id» = s .«source_id»;
+      «name_id» = s .«name_id»;
+      at = g .next;
+    })
+
+-- 3. the source: refused with the id before this segment
+abbrev pub sourced : State → Id → (ℕ → Moved) → Moved
+sourced s Id.Outside go = Moved.No (Code.BadSourceReference (s .«source_id»)) (About.Field 1)
+sourced s (Id.Is id) go = go id
+
+-- 3, 4. the source, then its line, then its column
+unfoldable pub mapped : Mode → ℕ → State → Segment → Moved
+mapped mode sources s g =
+    sourced s (idOf sources (pos (s .«source_id») +ℤ num 1 g)) λ source.
+    kept (sumOf mode (pos (s .«src_line») +ℤ num 2 g)) 2 λ line.
+    kept (sumOf mode (pos (s .«src_col») +ℤ num 3 g)) 3 λ column. Moved.To (record {
+      «dst_line» = s .«dst_line»;
+      «dst_col» = s .«dst_col»;
+      «src_line» = line;
+      «src_col» = column;
+      «source_id» = source;
+      «name_id» = s .«name_id»;
+      at = s .at;
+    })
+
+-- 5. the name: refused unless below the name count
+unfoldable pub named : Mode → ℕ → State → Segment → Moved
+named mode names s g =
+    kept (nameSumOf mode (pos (s .«name_id») +ℤ num 4 g)) 4 λ name.
+    pick (ltb name names)
+    (Moved.To (record {
+      «dst_line» = s .«dst_line»;
+      «dst_col» = s .«dst_col»;
+      «src_line» = s .«src_line»;
+      «src_col» = s .«src_col»;
+      «source_id» = s .«source_id»;
+      «name_id» = name;
+      at = s .at;
+    }))
+    (Moved.No (Code.BadNameReference name) (About.Field 4))
+
+-- the token that shows the running numbers with these ids
+abbrev pub shown : State → ℕ → ℕ → Token
+shown s source name =
+    record {
+      «dst_line» = s .«dst_line»;
+      «dst_col» = s .«dst_col»;
+      «src_line» = s .«src_line»;
+      «src_col» = s .«src_col»;
+      «source_id» = source;
+      «name_id» = name;
+    }
+
+abbrev pub onward : Moved → (State → Applied) → Applied
+onward (Moved.To s) go = go s
+onward (Moved.No code about) go = Applied.Refused code about
+
+-- four fields: a source; five: a source and a name
+unfoldable pub four : Mode → ℕ → State → Segment → Applied
+four mode sources s g = onward (mapped mode sources s g) λ r. Applied.Took (shown r (r .«source_id») none) r
+
+unfoldable pub five : Mode → ℕ → ℕ → State → Segment → Applied
+five mode sources names s g =
+    onward (mapped mode sources s g) λ r.
+    onward (named mode names r g) λ q. Applied.Took (shown q (q .«source_id») (q .«name_id»)) q
+
+-- 2. the field count: one field has no source and no name, and carries the running source line and column
+unfoldable pub counted : Mode → ℕ → ℕ → State → Segment → Applied
+counted mode sources names s g =
+    pick (eqb (g .count) 1) (Applied.Took (shown s none none) s)
+    (pick (eqb (g .count) 4) (four mode sources s g)
+    (pick (eqb (g .count) 5) (five mode sources names s g)
+    (Applied.Refused (Code.BadSegmentSize (g .count % 2 ^ 32)) About.Whole)))
+
+-- steps 1 to 5, in order, of a segment whose values are all read
+unfoldable pub applied : Mode → ℕ → ℕ → State → Segment → Applied
+applied mode sources names s g = onward (columned mode s g) λ r. counted mode sources names r g

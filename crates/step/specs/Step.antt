@@ -1,0 +1,72 @@
+-- Document 01, "Mappings": the next token of a text, or a refusal with its offset, or the end. Assumes nothing.
+use mathlib.Core.List.{List, [], _∷_}
+use Prim.Native.Nat.{ℕ, _+_, _%_, _^_}
+use lib.Dec.{eqb}
+use lib.ListN.{drop}
+use Rattle.list.specs.Pick.{pick}
+use Rattle.code.specs.declared.Code.{Code}
+use Rattle.value.specs.declared.Mode.{Mode}
+use Rattle.segment.specs.Segment.{segmentOf, fieldsFrom}
+use Rattle.segment.specs.declared.Ending.{Ending}
+use Rattle.segment.specs.declared.Segment.{Segment}
+use Rattle.apply.specs.Apply.{applied}
+use Rattle.apply.specs.declared.State.{State}
+use Rattle.apply.specs.declared.About.{About}
+use Rattle.apply.specs.declared.Applied.{Applied}
+use Rattle.step.specs.declared.Step.{Step}
+
+-- six running numbers start at 0, and the place too
+abbrev pub start : State
+start = record { «dst_line» = 0; «dst_col» = 0; «src_line» = 0; «src_col» = 0; «source_id» = 0; «name_id» = 0; at = 0 }
+
+-- `,` does nothing
+abbrev pub commaed : State → State
+commaed s =
+    record {
+      «dst_line» = s .«dst_line»;
+      «dst_col» = s .«dst_col»;
+      «src_line» = s .«src_line»;
+      «src_col» = s .«src_col»;
+      «source_id» = s .«source_id»;
+      «name_id» = s .«name_id»;
+      at = s .at + 1;
+    }
+
+-- `;` adds 1 to the line, modulo 2^32, and sets the generated column to 0
+abbrev pub lined : State → State
+lined s =
+    record {
+      «dst_line» = (s .«dst_line» + 1) % 2 ^ 32;
+      «dst_col» = 0;
+      «src_line» = s .«src_line»;
+      «src_col» = s .«src_col»;
+      «source_id» = s .«source_id»;
+      «name_id» = s .«name_id»;
+      at = s .at + 1;
+    }
+
+-- where a refused segment is said to lie, whatever part of it the refusal is about: at its start
+unfoldable pub offsetOf : ℕ → List ℕ → About → ℕ
+offsetOf begin starts about = begin
+
+abbrev pub stepped : ℕ → List ℕ → Applied → Step
+stepped begin starts (Applied.Took t s) = Step.Put t begin s
+stepped begin starts (Applied.Refused code about) = Step.Refuse code (offsetOf begin starts about)
+
+-- a segment: a broken value refuses it before anything is tested
+unfoldable pub segmentStep : Mode → ℕ → ℕ → State → Segment → Ending → Step
+segmentStep mode sources names s g Ending.Whole = stepped (s .at) (g .starts) (applied mode sources names s g)
+segmentStep mode sources names s g (Ending.Leftover place) = Step.Refuse Code.VlqLeftover (offsetOf (s .at) (g .starts) (About.Place place))
+segmentStep mode sources names s g (Ending.Overflow place) = Step.Refuse Code.VlqOverflow (offsetOf (s .at) (g .starts) (About.Place place))
+
+-- the next token of the bytes that begin at the state's place, or a refusal, or the end
+unfoldable pub stepFrom : Mode → ℕ → ℕ → State → List ℕ → Step
+stepFrom mode sources names s [] = Step.Done
+stepFrom mode sources names s (b ∷ bs) =
+    pick (eqb b 44) (stepFrom mode sources names (commaed s) bs)
+    (pick (eqb b 59) (stepFrom mode sources names (lined s) bs)
+    (segmentStep mode sources names s (segmentOf (fieldsFrom mode 0 (s .at) (b ∷ bs))) (segmentOf (fieldsFrom mode 0 (s .at) (b ∷ bs)) .end)))
+
+-- the same at the state's place of a whole text
+abbrev pub stepAt : Mode → ℕ → ℕ → List ℕ → State → Step
+stepAt mode sources names text s = stepFrom mode sources names s (drop (s .at) text)

@@ -11,7 +11,7 @@ use Rattle.value.specs.declared.Mode.{Mode}
 use Rattle.vlq.specs.Vlq.{digitsFrom, vlqOf}
 use Rattle.segment.specs.Segment.{fieldsFrom}
 use Rattle.sums.specs.Sums.{reducedOf, sumOf, idOf, nameSumOf}
-use Rattle.apply.specs.Apply.{columned, mapped, named, applied}
+use Rattle.apply.specs.Apply.{columned, mapped, named, four, five, counted, applied}
 use Rattle.step.specs.Step.{offsetOf, segmentStep, stepFrom}
 use Rattle.decode.specs.Mapping.{Out, run, decoded}
 
@@ -75,6 +75,6 @@ Each [] = Unit {0}
 Each (r ∷ rs) = Gives r × Each rs
 
 pub worked-texts : Each worked
-unfolding digitOf isDelim valueOf digitsFrom vlqOf fieldsFrom reducedOf sumOf idOf nameSumOf columned mapped named applied offsetOf segmentStep stepFrom run
+unfolding digitOf isDelim valueOf digitsFrom vlqOf fieldsFrom reducedOf sumOf idOf nameSumOf columned mapped named four five counted applied offsetOf segmentStep stepFrom run
 worked-texts =
     ((refl, refl), ((refl, refl), ((refl, refl), ((refl, refl), ((refl, refl), ((refl, refl), ((refl, refl), ((refl, refl), ((refl, refl), ((refl, refl), ((refl, refl), ((refl, refl), ((refl, refl), tt)))))))))))))

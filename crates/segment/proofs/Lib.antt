@@ -1,3 +1,4 @@
 pub mod Five
 pub mod Loop
+pub mod Range
 pub mod Reach

@@ -1,11 +1,171 @@
-// The next token of a text.
+// The next token of a text: delimiters are passed, and a segment is taken, by the short way where that can be done.
+use apply::About;
+use apply::Applied;
 use apply::State;
 use code::Code;
+use segment::Ending;
+use short::Near;
 use token::Token;
+use value::Mode;
+ghost use mathlib.Core.Path.{_≡_};
+ghost use Prim.Native.Nat.{_+_, _<_, _≤_, _^_};
+ghost use lib.ListN.{length};
+ghost use lib.Dec.{eqb};
+ghost use Rattle.list.specs.Pick.{pick};
+ghost use Rattle.token.specs.Table.{none};
+ghost use Rattle.digits.specs.Digits.{reading, shortReading};
+ghost use Rattle.step.specs.Step.{commaed, lined, offsetOf, stepped, segmentedAt, shortStep, stepAt};
+ghost use Rattle.short.specs.Short.{Fit};
 
 // The next token with its segment's start and the state after it; a refusal with its offset; or the end.
 pub enum Step {
     Put(Token, usize, State),
     Refuse(Code, usize),
     Done,
+}
+
+// The one place where a refusal's offset is chosen: the segment's start, whatever the refusal is about.
+fn offset_of(begin: usize, starts: [usize; 5], about: About) -> usize
+    ensures { λ r. ⌜ r ≡ offsetOf begin starts about ⌝ }
+{
+    begin
+}
+
+fn step_of(begin: usize, starts: [usize; 5], a: Applied) -> Step
+    ensures { λ r. ⌜ r ≡ stepped begin starts a ⌝ }
+{
+    match a {
+        Applied::Took(t, s) => Step::Put(t, begin, s),
+        Applied::Refused(code, about) => Step::Refuse(code, offset_of(begin, starts, about)),
+    }
+}
+
+// A segment in general.
+fn general_step(t: &[u8; 256], s: &[u8], mode: Mode, sources: u32, names: u32, st: State) -> Step
+    requires { ⌜ now t ≡ reading ⌝ }
+    ensures { λ r. ⌜ r ≡ segmentedAt mode sources names (now (s .entry)) st ⌝ }
+{
+    let g = segment::parse_vlq_segment(t, s, mode, st.at);
+    let end = g.end;
+    let starts = g.starts;
+    match end {
+        Ending::Whole => step_of(
+            st.at,
+            starts,
+            apply::apply_segment(mode, sources, names, st, g),
+        ),
+        Ending::Leftover(place) => Step::Refuse(
+            Code::VlqLeftover,
+            offset_of(st.at, starts, About::Place(place)),
+        ),
+        Ending::Overflow(place) => Step::Refuse(
+            Code::VlqOverflow,
+            offset_of(st.at, starts, About::Place(place)),
+        ),
+    }
+}
+
+fn shown_name(k: usize, name_id: u32) -> u32
+    ensures { λ r. ⌜ r ≡ pick (eqb k 5) «name_id» none ⌝ }
+{
+    if k == 5 {
+        return name_id;
+    }
+    token::NONE
+}
+
+fn short_step(st: State, n: Near, k: usize, sources: u32, names: u32) -> Step
+    requires { ⌜ Fit n k sources names × (st .at + k < 2 ^ 64) ⌝ }
+    ensures { λ r. ⌜ r ≡ shortStep st n k ⌝ }
+{
+    let mut r = st;
+    r.dst_col = n.dst_col as u32;
+    r.source_id = n.source_id as u32;
+    r.src_line = n.src_line as u32;
+    r.src_col = n.src_col as u32;
+    r.name_id = n.name_id as u32;
+    r.at = st.at + k;
+    Step::Put(
+        Token {
+            dst_line: r.dst_line,
+            dst_col: r.dst_col,
+            src_line: r.src_line,
+            src_col: r.src_col,
+            source_id: r.source_id,
+            name_id: shown_name(k, r.name_id),
+        },
+        st.at,
+        r,
+    )
+}
+
+// One segment: by the short way where its tests hold, else, and for every refusal, in general.
+fn segment_step(
+    t: &[u8; 256],
+    u: &[u8; 256],
+    s: &[u8],
+    mode: Mode,
+    sources: u32,
+    names: u32,
+    st: State,
+) -> Step
+    requires { ⌜ (now t ≡ reading) × ((now u ≡ shortReading) × (st .at < length (now s))) ⌝ }
+    ensures { λ r. ⌜ r ≡ segmentedAt mode sources names (now (s .entry)) st ⌝ }
+{
+    let at = st.at;
+    if 6 <= s.len() - at {
+        let k = short::try_fast_4_or_5_segment(u, s, at);
+        if 0 < k {
+            let n = short::near_all(u, s, st);
+            if short::fits(n, k, sources, names) {
+                return short_step(st, n, k, sources, names);
+            }
+        }
+    }
+    general_step(t, s, mode, sources, names, st)
+}
+
+// `,` or `;`
+fn crossed(st: State, b: u8) -> State
+    requires { ⌜ st .at + 1 < 2 ^ 64 ⌝ }
+    ensures { λ r. ⌜ r ≡ pick (eqb b 59) (lined st) (commaed st) ⌝ }
+{
+    let mut r = st;
+    r.at = st.at + 1;
+    if b == 59 {
+        r.dst_line = ((st.dst_line as u64 + 1) % 4294967296) as u32;
+        r.dst_col = 0;
+        return r;
+    }
+    r
+}
+
+// The next token from the state's place on.
+pub fn next_token(
+    t: &[u8; 256],
+    u: &[u8; 256],
+    s: &[u8],
+    mode: Mode,
+    sources: u32,
+    names: u32,
+    from: State,
+) -> Step
+    requires { ⌜ (now t ≡ reading) × (now u ≡ shortReading) ⌝ }
+    ensures { λ r. ⌜ r ≡ stepAt mode sources names (now (s .entry)) from ⌝ }
+{
+    let mut st = from;
+    while st.at < s.len() {
+        let at = st.at;
+        let b = s[at];
+        let class = digits::code_in(t, b);
+        match class {
+            0..=63 => {
+                return segment_step(t, u, s, mode, sources, names, st);
+            }
+            _ => {
+                st = crossed(st, b);
+            }
+        }
+    }
+    Step::Done
 }

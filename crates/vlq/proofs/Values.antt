@@ -75,6 +75,21 @@ headed (b ∷ bs) s at bits lost next q e = delimited (isDelim b) s at bits lost
 pub value : (s : List ℕ) (at bits lost next : ℕ) → vlqAt s at ≡ Value bits lost next → Read s at bits lost next
 value s at bits lost next e = headed (drop at s) s at bits lost next refl e
 
+-- the bits of a value are 64
+answer-bits : (at : ℕ) (t : Digits) (bits lost next : ℕ) → answer at t ≡ Value bits lost next → bits < 2 ^ 64
+answer-bits at (cut k) bits lost next e = absurd (zero-one cc)
+answer-bits at (long k) bits lost next e = absurd (zero-one cc)
+answer-bits at (num n len) bits lost next e = let w : n % 2 ^ 64 ≡ bits = cc in omega arith
+
+bits-by : (t : Bool) (at : ℕ) (l : List ℕ) (bits lost next : ℕ) → pick t End (answer at (digitsFrom 13 l)) ≡ Value bits lost next → bits < 2 ^ 64
+bits-by true at l bits lost next e = absurd (zero-one cc)
+bits-by false at l bits lost next e = answer-bits at (digitsFrom 13 l) bits lost next e
+
+pub value-bits : (at : ℕ) (l : List ℕ) (bits lost next : ℕ) → vlqOf at l ≡ Value bits lost next → bits < 2 ^ 64
+unfolding vlqOf
+value-bits at [] bits lost next e = absurd (zero-one cc)
+value-bits at (b ∷ bs) bits lost next e = bits-by (isDelim b) at (b ∷ bs) bits lost next e
+
 -- ---- so many digits make no larger number: each digit list that reads as n has at least as many as n needs
 abbrev Under : ℕ → ℕ → Type 0
 Under n len = n < 2 ^ (5 * len)

@@ -1,0 +1,112 @@
+-- A segment in general, and the loop over delimiters, on the definitions alone. Assumes nothing.
+use mathlib.Core.Path.{_≡_, refl, sym, _∙_, ap, subst}
+use mathlib.Core.Bool.{Bool, true, false}
+use mathlib.Core.Logic.{_⊎_, ⊎-elim}
+use mathlib.Core.List.{List, [], _∷_}
+use Prim.Native.Nat.{ℕ, suc, _+_, _-_, _<_, _≤_}
+use native.Mathlib.Numerals.{add-one}
+use native.Mathlib.Omega.{arith}
+use lib.Dec.{T, eqb}
+use lib.ListN.{length, drop, getD, drop-of-length-le}
+use lib.Seq.{drop-cons}
+use borrow.Author.Tests.{eq-eqb, ne-eqb, eqb-true, eqb-false}
+use Rattle.list.specs.Pick.{pick}
+use Rattle.code.specs.declared.Code.{Code}
+use Rattle.digits.specs.Digits.{codeOf, isDelim}
+use Rattle.digits.proofs.Tables.{Delim, Digit, is-digit, code-cases}
+use Rattle.value.specs.declared.Mode.{Mode}
+use Rattle.segment.specs.Segment.{segmentOf, segmentAt, fieldsFrom}
+use Rattle.segment.specs.declared.Ending.{Ending}
+use Rattle.segment.specs.declared.Segment.{Segment}
+use Rattle.segment.proofs.Range.{nums-small}
+use Rattle.apply.specs.Apply.{Small, applied}
+use Rattle.apply.specs.declared.State.{State}
+use Rattle.apply.specs.declared.About.{About}
+use Rattle.apply.specs.declared.Applied.{Applied}
+use Rattle.step.specs.declared.Step.{Step}
+use Rattle.step.specs.Step.{commaed, lined, offsetOf, stepped, segmentStep, stepFrom, stepAt, segmentedAt}
+
+-- ---- a segment: g is what the segment reader gave
+module _ (mode : Mode) (sources names : ℕ) (text : List ℕ) (st : State) (g : Segment) (e : g ≡ segmentAt mode text (st .at)) where
+  pub small : Small g
+  small = record { small = λ i. rw e (nums-small mode text (st .at) i) }
+
+  opened : (end : Ending) → g .end ≡ end → segmentedAt mode sources names text st ≡ segmentStep mode sources names st g end
+  opened end q = rw (← e, q)
+
+  pub general-whole : g .end ≡ Ending.Whole → (a : Applied) → a ≡ applied mode sources names st g → (r : Step) → r ≡ stepped (st .at) (g .starts) a
+      → r ≡ segmentedAt mode sources names text st
+  unfolding segmentStep
+  general-whole q a ea r er = er ∙ ap (stepped (st .at) (g .starts)) ea ∙ sym (opened Ending.Whole q)
+
+  pub general-leftover : (place : ℕ) → g .end ≡ Ending.Leftover place → (o : ℕ) → o ≡ offsetOf (st .at) (g .starts) (About.Place place)
+      → Step.Refuse Code.VlqLeftover o ≡ segmentedAt mode sources names text st
+  unfolding segmentStep
+  general-leftover place q o eo = ap (Step.Refuse Code.VlqLeftover) eo ∙ sym (opened (Ending.Leftover place) q)
+
+  pub general-overflow : (place : ℕ) → g .end ≡ Ending.Overflow place → (o : ℕ) → o ≡ offsetOf (st .at) (g .starts) (About.Place place)
+      → Step.Refuse Code.VlqOverflow o ≡ segmentedAt mode sources names text st
+  unfolding segmentStep
+  general-overflow place q o eo = ap (Step.Refuse Code.VlqOverflow) eo ∙ sym (opened (Ending.Overflow place) q)
+
+-- ---- the two delimiters
+yes-no : false ≡ true → ⊥
+yes-no e = subst T (sym e) tt
+
+neither-by : (t u : Bool) → pick t true u ≡ false → (t ≡ false) × (u ≡ false)
+neither-by true u q = absurd (yes-no (sym q))
+neither-by false u q = (refl, q)
+
+neither : (b : ℕ) → isDelim b ≡ false → (eqb b 44 ≡ false) × (eqb b 59 ≡ false)
+unfolding isDelim
+neither b q = neither-by (eqb b 44) (eqb b 59) q
+
+not-both : (b : ℕ) → eqb b 44 ≡ true → eqb b 59 ≡ true → ⊥
+not-both b p q = let x = eqb-true b 44 p in let y = eqb-true b 59 q in omega arith
+
+-- the table's entry of a delimiter is 64, the largest
+delimited : (b : ℕ) → b < 256 → (d : ℕ) → d ≡ codeOf b → 64 ≤ d → pick (eqb b 44) true (eqb b 59) ≡ true
+unfolding isDelim
+delimited b h d e l = ⊎-elim (λ k. k .delim) (λ k. absurd (omega (arith, k .small))) (code-cases b h)
+
+-- ---- the loop: what is left from st on is what was left at the start
+pub record Coming (mode : Mode) (sources names : ℕ) (text : List ℕ) (from st : State) : Type 0 where
+  pub is : stepAt mode sources names text from ≡ stepAt mode sources names text st
+
+pub begins : (mode : Mode) (sources names : ℕ) (text : List ℕ) (from : State) → Coming mode sources names text from from
+begins mode sources names text from = record { is = refl }
+
+module _ (mode : Mode) (sources names : ℕ) (text : List ℕ) (from st : State) (c : Coming mode sources names text from st) where
+  pub ends : length text ≤ st .at → Step.Done ≡ stepAt mode sources names text from
+  unfolding stepFrom
+  ends h = sym (c .is ∙ rw (drop-of-length-le text h))
+
+  -- b is the byte at the place, d what the table has for it
+  module _ (h : st .at < length text) (b : ℕ) (eb : b ≡ getD text (st .at) 0) (hb : b < 256) (d : ℕ) (ed : d ≡ codeOf b) where
+    headed : drop (st .at) text ≡ b ∷ drop (st .at + 1) text
+    headed = rw (eb, add-one (st .at)) (drop-cons text (st .at) 0 h)
+
+    pub segment-at : d < 64 → (r : Step) → r ≡ segmentedAt mode sources names text st → r ≡ stepAt mode sources names text from
+    unfolding stepFrom segmentAt
+    segment-at l r er =
+        let n = neither b (is-digit b d hb ed (λ q. omega arith) .delim) in
+        er ∙ rw headed (sym (c .is ∙ rw (headed, n .0, n .1)))
+
+    crossed-by : (t u : Bool) → eqb b 44 ≡ t → eqb b 59 ≡ u → pick t true u ≡ true → (r : State) → r ≡ pick u (lined st) (commaed st)
+        → stepAt mode sources names text from ≡ stepAt mode sources names text r
+    unfolding stepFrom
+    crossed-by true true p q w r er = absurd (not-both b p q)
+    crossed-by true false p q w r er = c .is ∙ rw (headed, p, er)
+    crossed-by false true p q w r er = c .is ∙ rw (headed, p, q, er)
+    crossed-by false false p q w r er = absurd (yes-no w)
+
+    pub crosses : 64 ≤ d → (r : State) → r ≡ pick (eqb b 59) (lined st) (commaed st) → Coming mode sources names text from r
+    unfolding isDelim
+    crosses l r er = record { is = crossed-by (eqb b 44) (eqb b 59) refl refl (delimited b hb d ed l) r er }
+
+    pub less : (r : State) → r ≡ pick (eqb b 59) (lined st) (commaed st) → length text - r .at < length text - st .at
+    less r er = omega (arith, moved-on (eqb b 59) r er)
+      where
+        moved-on : (t : Bool) (r : State) → r ≡ pick t (lined st) (commaed st) → r .at ≡ st .at + 1
+        moved-on true r q = rw q
+        moved-on false r q = rw q

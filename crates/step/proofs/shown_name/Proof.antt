@@ -1,0 +1,19 @@
+use borrow.Author.Needs.{needs}
+use mathlib.Core.Path.{_≡_, refl, sym, _∙_, ap}
+use native.Mathlib.Omega.{arith}
+use borrow.Author.Tests.{eq-eqb, ne-eqb}
+use Rattle.step.proofs.shown_name.Statement.{statement}
+use Rattle.step.proofs.shown_name.Tie as tie
+use Rattle.step.proofs.shown_name.Reads as reads
+use Rattle.step.proofs.shown_name.Lts as lts
+
+-- src/lib.rt:62:9
+returns : tie.Need-returns
+returns c = rw (eq-eqb (c .before .args .k) 5 (c .if1 .taken))
+
+-- src/lib.rt:58:1
+returns-2 : tie.Need-returns-2
+returns-2 c = rw (ne-eqb (c .before .args .k) 5 (c .if1 .left))
+
+pub shown-name-spec : {M : Type 1} → statement M
+shown-name-spec = tie.close (tie.spec returns returns-2)

@@ -1,1 +1,2 @@
 pub mod Premises
+pub mod Unique

@@ -1,10 +1,11 @@
 -- Demand 3's premises on a token table, as a test that computes. Assumes nothing.
-use mathlib.Core.Bool.{Bool, true}
+use mathlib.Core.Bool.{Bool, true, false}
 use mathlib.Core.List.{List, [], _∷_}
 use Prim.Native.Nat.{ℕ}
 use lib.Dec.{eqb, leb, ltb}
+use lib.ListN.{length}
 use Rattle.list.specs.Pick.{pick, both}
-use Rattle.token.specs.Table.{isNone}
+use Rattle.token.specs.Table.{isNone, badTable, tokensOf}
 use Rattle.token.specs.declared.Token.{Token}
 
 -- an id is none or below its count
@@ -33,3 +34,7 @@ follow sources names line srcLine srcCol (t ∷ ts) =
 -- from the start: line 0, and the source position 0, 0 before any
 abbrev pub premises : ℕ → ℕ → List Token → Bool
 premises sources names ts = follow sources names 0 0 0 ts
+
+-- the test's answer: a bad table meets them not
+unfoldable pub decides : List ℕ → ℕ → ℕ → Bool
+decides table sources names = pick (badTable (length table)) false (premises sources names (tokensOf table))

@@ -1,0 +1,72 @@
+-- `premises::meets_premises` meets its contract. The invariant: what is left of the table decides the whole. Assumes nothing.
+use Prim.Native.Nat.{_-_}
+use native.Mathlib.Omega.{arith}
+use borrow.Author.Needs.{needs}
+use Rattle.premises.proofs.Laws.{Passing, refuses, begin, ends, stops, goes-on}
+use Rattle.premises.proofs.meets_premises.Statement.{statement}
+use Rattle.premises.proofs.meets_premises.Tie as tie
+
+abbrev Inv-loop : tie.InvT-loop
+Inv-loop table sources names count i₀ line₀ src-line₀ src-col₀ i line src-line src-col = Passing table sources names i line src-line src-col
+
+abbrev μ-loop : tie.MeasureT-loop
+μ-loop table sources names count i₀ line₀ src-line₀ src-col₀ i line src-line src-col = count - i
+
+bad-table-requires : tie.Need-bad-table-requires Inv-loop μ-loop
+bad-table-requires c κs = search needs
+
+returns : tie.Need-returns Inv-loop μ-loop
+returns c = refuses _ _ _ _ (c .before .bad-table .ensures) (c .if1 .taken)
+
+places-in-requires : tie.Need-places-in-requires Inv-loop μ-loop
+places-in-requires c κs = search needs
+
+loop-holds : tie.Need-loop-holds Inv-loop μ-loop
+loop-holds c = begin _ _ _ _ (c .before .before .bad-table .ensures) (c .before .if1 .left)
+
+token-at-requires : tie.Need-token-at-requires Inv-loop μ-loop
+token-at-requires c κs = omega (arith, c .before .before .places-in .ensures)
+
+follows-ok-requires : tie.Need-follows-ok-requires Inv-loop μ-loop
+follows-ok-requires c κs = search needs
+
+returns-2 : tie.Need-returns-2 Inv-loop μ-loop
+returns-2 c = stops _ _ _ _ _ _ _ (c .before .before .before .before .loop .inv) _ (c .before .before .before .before .before .places-in .ensures) (c .before .before .before .loop-test .taken) _ (c .before .before .token-at .ensures) _ (c .before .follows-ok .ensures) (c .if2 .taken)
+
+latest-requires : tie.Need-latest-requires Inv-loop μ-loop
+latest-requires c κs = search needs
+
+latest-requires-2 : tie.Need-latest-requires-2 Inv-loop μ-loop
+latest-requires-2 c κs = search needs
+
+add-i : tie.Need-add-i Inv-loop μ-loop
+add-i c = omega arith
+
+loop-less : tie.Need-loop-less Inv-loop μ-loop
+loop-less c = omega arith
+
+loop-again : tie.Need-loop-again Inv-loop μ-loop
+loop-again c = goes-on _ _ _ _ _ _ _ (c .before .before .before .before .before .before .loop .inv) _ (c .before .before .before .before .before .before .before .places-in .ensures) (c .before .before .before .before .before .loop-test .taken) _ (c .before .before .before .before .token-at .ensures) _ (c .before .before .before .follows-ok .ensures) (c .before .before .if2 .left) _ _ (c .before .latest .ensures) (c .latest2 .ensures)
+
+returns-3 : tie.Need-returns-3 Inv-loop μ-loop
+returns-3 c = ends _ _ _ _ _ _ _ (c .before .loop .inv) _ (c .before .before .places-in .ensures) (c .loop-test .left)
+
+pub meets-premises-spec : {M : Type 1} → statement M
+meets-premises-spec =
+    tie.close
+    (tie.spec
+    Inv-loop
+    μ-loop
+    bad-table-requires
+    returns
+    places-in-requires
+    loop-holds
+    token-at-requires
+    follows-ok-requires
+    returns-2
+    latest-requires
+    latest-requires-2
+    add-i
+    loop-less
+    loop-again
+    returns-3)

@@ -1,0 +1,9 @@
+-- The contract of the test leaves one answer. Assumes nothing.
+use mathlib.Core.Path.{_≡_, sym, _∙_}
+use mathlib.Core.Bool.{Bool}
+use mathlib.Core.List.{List}
+use Prim.Native.Nat.{ℕ}
+use Rattle.premises.specs.Premises.{decides}
+
+pub one-answer : (table : List ℕ) (sources names : ℕ) (a b : Bool) → a ≡ decides table sources names → b ≡ decides table sources names → a ≡ b
+one-answer table sources names a b e f = e ∙ sym f

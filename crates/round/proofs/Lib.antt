@@ -1,0 +1,11 @@
+pub mod Chunks
+pub mod Demand3
+pub mod Facts
+pub mod Fields
+pub mod Lead
+pub mod Round
+pub mod Run
+pub mod Sums
+pub mod Tables
+pub mod Taken
+pub mod Value

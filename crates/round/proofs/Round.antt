@@ -1,0 +1,98 @@
+-- The round trip from the start, and what else demand 3 needs of the premises. Assumes nothing.
+use mathlib.Core.Path.{_≡_, refl, sym}
+use mathlib.Core.Bool.{Bool, true, false}
+use mathlib.Core.List.{List, [], _∷_}
+use mathlib.Core.Option.{none}
+use Prim.Native.Nat.{ℕ, _+_, _≤_}
+use native.Mathlib.Omega.{arith}
+use lib.Dec.{ltb, leb}
+use lib.ListN.{length}
+use borrow.Author.Tests.{lt-ltb, le-ltb, ltb-true, leb-true}
+use Rattle.list.specs.Pick.{pick, both}
+use Rattle.code.specs.declared.Code.{Code}
+use Rattle.token.specs.Table.{isNone, badTable, tokensOf}
+use Rattle.token.specs.declared.Token.{Token}
+use Rattle.token.specs.declared.TokenChunk.{TokenChunk}
+use Rattle.value.specs.declared.Mode.{Mode}
+use Rattle.decode.specs.Mapping.{decoded}
+use Rattle.encode.specs.Chunk.{fieldsOf, after, firstBack}
+use Rattle.premises.specs.Premises.{idWithin, follows, follow, premises, decides}
+use Rattle.round.specs.Terms.{fresh, textOf, takes, takesEach, takesFrom, takesAll}
+use Rattle.round.specs.Demand3.{Sound, SoundTable}
+use Rattle.round.proofs.Facts.{both-true, Held}
+use Rattle.round.proofs.Run.{run-back}
+use Rattle.round.proofs.Tables.{flat-tokens}
+
+zeros-held : Held (fresh 0 0)
+zeros-held = record { col = omega arith; srcLine = omega arith; srcCol = omega arith; source = omega arith; name = omega arith }
+
+pub back : (mode : Mode) (sources names room : ℕ) (ts : List Token) → Sound sources names ts → takesAll mode ts ≡ true → length ts ≤ room
+    → decoded mode sources names (textOf ts) room ≡ record { tokens = ts; code = Code.Done; offset = length (textOf ts) }
+back mode sources names room ts s k l = run-back mode sources names ts (textOf ts) room 0 0 (fresh 0 0) zeros-held (s .fits) (s .meets) k l refl
+
+-- ---- each mode takes every value
+takes-each : (mode : Mode) (vs : List ℕ) → takesEach mode vs ≡ true
+unfolding takesEach takes
+takes-each mode [] = refl
+takes-each mode (v ∷ vs) = takes-each mode vs
+
+takes-from : (mode : Mode) (p : TokenChunk) (ts : List Token) → takesFrom mode p ts ≡ true
+unfolding takesFrom
+takes-from mode p [] = refl
+takes-from mode p (t ∷ ts) = rw (takes-each mode (fieldsOf p t)) (takes-from mode (after p t) ts)
+
+pub takes-all : (mode : Mode) (ts : List Token) → takesAll mode ts ≡ true
+takes-all mode ts = takes-from mode (fresh 0 0) ts
+
+-- ---- the premises, where the counts grow
+both-of : (a b : Bool) → a ≡ true → b ≡ true → both a b ≡ true
+both-of a b e f = rw (e, f)
+
+id-more : (t : Bool) (count count′ id : ℕ) → count ≤ count′ → pick t true (ltb id count) ≡ true → pick t true (ltb id count′) ≡ true
+id-more true count count′ id h e = refl
+id-more false count count′ id h e = lt-ltb id count′ (omega (arith, ltb-true id count e))
+
+module _ (sources names sources′ names′ : ℕ) (hs : sources ≤ sources′) (hn : names ≤ names′) where
+  follows-more : (line srcLine srcCol : ℕ) (t : Token) → follows sources names line srcLine srcCol t ≡ true → follows sources′ names′ line srcLine srcCol t ≡ true
+  unfolding follows
+  follows-more line srcLine srcCol t w =
+      let a = both-true (leb line (t .«dst_line»)) _ w in
+      let b = both-true (idWithin sources (t .«source_id»)) _ (a .1) in
+      let c = both-true (idWithin names (t .«name_id»)) _ (b .1) in
+      both-of _ _ (a .0)
+      (both-of _ _ (id-more (isNone (t .«source_id»)) sources sources′ (t .«source_id») hs (b .0))
+      (both-of _ _ (id-more (isNone (t .«name_id»)) names names′ (t .«name_id») hn (c .0)) (c .1)))
+
+  pub follow-more : (line srcLine srcCol : ℕ) (ts : List Token) → follow sources names line srcLine srcCol ts ≡ true → follow sources′ names′ line srcLine srcCol ts ≡ true
+  unfolding follow
+  follow-more line srcLine srcCol [] w = refl
+  follow-more line srcLine srcCol (t ∷ ts) w =
+      let r = both-true (follows sources names line srcLine srcCol t) _ w in
+      both-of _ _ (follows-more line srcLine srcCol t (r .0)) (follow-more _ _ _ ts (r .1))
+
+  pub sound-more : (ts : List Token) → Sound sources names ts → Sound sources′ names′ ts
+  sound-more ts s = record { meets = follow-more 0 0 0 ts (s .meets); fits = s .fits }
+
+-- ---- under the premises no line goes back
+pub never-back : (sources names i line srcLine srcCol : ℕ) (ts : List Token) → follow sources names line srcLine srcCol ts ≡ true → firstBack i line ts ≡ none
+unfolding follow follows firstBack
+never-back sources names i line srcLine srcCol [] w = refl
+never-back sources names i line srcLine srcCol (t ∷ ts) w =
+    let r = both-true (follows sources names line srcLine srcCol t) _ w in
+    let a = both-true (leb line (t .«dst_line»)) _ (r .0) in
+    rw (le-ltb (t .«dst_line») line (leb-true line (t .«dst_line») (a .0))) (never-back sources names (i + 1) (t .«dst_line») _ _ ts (r .1))
+
+-- ---- a table that meets them
+decides-by : (t : Bool) (x : Bool) → pick t false x ≡ true → (t ≡ false) × (x ≡ true)
+decides-by true x e = (sym e, cc)
+decides-by false x e = (refl, e)
+
+pub not-bad : (sources names : ℕ) (xs : List ℕ) → SoundTable sources names xs → badTable (length xs) ≡ false
+unfolding decides
+not-bad sources names xs s = decides-by (badTable (length xs)) (premises sources names (tokensOf xs)) (s .meets) .0
+
+pub sound-tokens : (sources names : ℕ) (xs : List ℕ) → SoundTable sources names xs → Sound sources names (tokensOf xs)
+unfolding decides
+sound-tokens sources names xs s =
+    let d = decides-by (badTable (length xs)) (premises sources names (tokensOf xs)) (s .meets) in
+    record { meets = d .1; fits = rw (flat-tokens xs (d .0)) (s .fits) }

@@ -1,0 +1,4 @@
+pub mod Chunks
+pub mod Demand3
+pub mod Terms
+pub mod Worked

@@ -1,0 +1,1 @@
+// What is written reads back, as theorems over the definitions of the decoder and the writer. No code.

@@ -50,3 +50,20 @@ bestOf table line col (suc n) = pick (fits table line col n) (later table n (bes
 
 abbrev pub lookupOf : List ℕ → ℕ → ℕ → Option ℕ
 lookupOf table line col = bestOf table line col (places (length table))
+
+-- what is computed, as an answer
+abbrev pub foundOf : Option ℕ → Found
+foundOf none = Found.Nothing
+foundOf (some i) = Found.At i
+
+-- ---- the numbers of an answer: code 0 carries the index, or 4,294,967,295 where there is no such token
+
+abbrev pub foundCode : Found → ℕ
+foundCode (Found.At i) = 0
+foundCode Found.Nothing = 0
+foundCode Found.BadTable = 11
+
+abbrev pub foundNumber : Found → ℕ
+foundNumber (Found.At i) = i
+foundNumber Found.Nothing = 4294967295
+foundNumber Found.BadTable = 0

@@ -1,7 +1,81 @@
 // Finds the token at a generated position.
+use token::Token;
+ghost use mathlib.Core.Path.{_≡_};
+ghost use mathlib.Core.Bool.{false};
+ghost use lib.Dec.{eqb, leb};
+ghost use lib.ListN.{length};
+ghost use Rattle.list.specs.Pick.{both};
+ghost use Rattle.token.specs.Table.{badTable};
+ghost use Rattle.lookup.specs.Lookup.{Looks, lookupOf, foundOf, foundCode, foundNumber};
 
+// The index of the token that is found, or why there is none.
 pub enum Found {
     At(u32),
     Nothing,
     BadTable,
+}
+
+// The code of an answer.
+pub fn found_code(f: Found) -> u64
+    ensures { λ r. ⌜ r ≡ foundCode f ⌝ }
+{
+    match f {
+        Found::At(_) => 0,
+        Found::Nothing => 0,
+        Found::BadTable => 11,
+    }
+}
+
+// The number with that code.
+pub fn found_number(f: Found) -> u64
+    ensures { λ r. ⌜ r ≡ foundNumber f ⌝ }
+{
+    match f {
+        Found::At(i) => i as u64,
+        Found::Nothing => 4294967295,
+        Found::BadTable => 0,
+    }
+}
+
+// Whether the next token is taken in place of the best so far; `least` is that one's column, 0 where there is none.
+fn takes(t: Token, line: u32, col: u32, least: u32) -> bool
+    ensures { λ r. ⌜ r ≡ both (eqb (t .«dst_line») line) (both (leb (t .«dst_col») col) (leb least (t .«dst_col»))) ⌝ }
+{
+    if t.dst_line != line {
+        return false;
+    }
+    if col < t.dst_col {
+        return false;
+    }
+    least <= t.dst_col
+}
+
+// The lookup in a table that is known to be one.
+pub fn look_in(table: &[u32], line: u32, col: u32) -> Found
+    requires { ⌜ badTable (length (now table)) ≡ false ⌝ }
+    ensures { λ r. ⌜ r ≡ foundOf (lookupOf (now (table .entry)) line col) ⌝ }
+{
+    let places = token::places_in(table.len());
+    let mut best = Found::Nothing;
+    let mut least: u32 = 0;
+    let mut i: usize = 0;
+    while i < places {
+        let t = token::token_at(table, i);
+        if takes(t, line, col, least) {
+            best = Found::At(i as u32);
+            least = t.dst_col;
+        }
+        i += 1;
+    }
+    best
+}
+
+// The token at a position: the largest column up to the asked one on its line, among equals the latest in the table.
+pub fn lookup_token(table: &[u32], line: u32, col: u32) -> Found
+    ensures { λ r. ⌜ Looks (now (table .entry)) line col r ⌝ }
+{
+    if token::bad_table(table.len()) {
+        return Found::BadTable;
+    }
+    look_in(table, line, col)
 }

@@ -7,11 +7,10 @@ use Prim.Native.Nat.{ℕ, _+_}
 use lib.Dec.{eqb, leb, ltb}
 use lib.ListN.{length}
 use Rattle.list.specs.Pick.{pick}
-use Rattle.code.specs.Code.{codeOf, numberOf}
+use Rattle.code.specs.Code.{codeOf}
 use Rattle.code.specs.declared.Code.{Code}
 use Rattle.token.specs.Table.{isNone, badTable, tokensOf, over}
 use Rattle.token.specs.declared.Token.{Token}
-use Rattle.translate.specs.declared.Answer.{Answer}
 use Rattle.translate.specs.declared.Translated.{Translated}
 
 -- ids other than none are moved
@@ -65,16 +64,3 @@ translatesTo line source name table =
 pub record Translates (line source name : ℕ) (table : List ℕ) (r : Code) (table′ : List ℕ) : Type 0 where
   pub says : r ≡ translatesTo line source name table
   pub wrote : table′ ≡ pick (eqb (codeOf (translatesTo line source name table)) 0) (over (allMoved line source name (tokensOf table)) table) table
-
--- over a slice of token records: BadTable only past 4,294,967,294 of them
-unfoldable pub recordsTo : ℕ → ℕ → ℕ → List Token → Code
-recordsTo line source name ts =
-    pick (ltb 4294967294 (length ts)) Code.BadTable (unlessTooBig (firstTooBig line source name 0 ts))
-
--- a code as the numbers that go out
-abbrev pub answerOf : Code → Answer
-answerOf code = record { code = codeOf code; number = numberOf code }
-
-pub record TranslatesRecords (line source name : ℕ) (ts : List Token) (r : Answer) (ts′ : List Token) : Type 0 where
-  pub says : r ≡ answerOf (recordsTo line source name ts)
-  pub wrote : ts′ ≡ pick (eqb (codeOf (recordsTo line source name ts)) 0) (allMoved line source name ts) ts

@@ -1,0 +1,5 @@
+pub mod Moving
+pub mod One
+pub mod Scan
+pub mod Whole
+pub mod Worked

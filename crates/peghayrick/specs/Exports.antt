@@ -1,0 +1,35 @@
+-- What the exported entries answer: the answers of the entries behind them, a code as its number and the number with it. Assumes nothing.
+use mathlib.Core.Path.{_≡_}
+use mathlib.Core.List.{List}
+use Prim.Native.Nat.{ℕ}
+use lib.ListN.{length}
+use Rattle.code.specs.Code.{codeOf, numberOf}
+use Rattle.code.specs.declared.Code.{Code}
+use Rattle.token.specs.Table.{places, over}
+use Rattle.value.specs.declared.Mode.{Mode}
+use Rattle.decode.specs.Mapping.{decoded, answer, Decodes}
+use Rattle.decode.specs.declared.Decoded.{Decoded}
+use Rattle.translate.specs.Translate.{Translates}
+use Rattle.records.specs.Records.{answerOf}
+use Rattle.records.specs.declared.Answer.{Answer}
+use Rattle.lookup.specs.Lookup.{Looks, foundCode, foundNumber}
+use Rattle.lookup.specs.declared.Found.{Found}
+use Rattle.peghayrick.specs.declared.DecodedOut.{DecodedOut}
+
+abbrev pub decodedOut : Decoded → DecodedOut
+decodedOut d = record { code = codeOf (d .code); number = numberOf (d .code); tokens = d .tokens; offset = d .offset }
+
+pub record DecodesOut (mode : Mode) (sources names : ℕ) (text table : List ℕ) (r : DecodedOut) (table′ : List ℕ) : Type 0 where
+  pub inner : Decoded
+  pub decodes : Decodes mode sources names text table inner table′
+  pub says : r ≡ decodedOut inner
+
+pub record TranslatesOut (line source name : ℕ) (table : List ℕ) (r : Answer) (table′ : List ℕ) : Type 0 where
+  pub inner : Code
+  pub translates : Translates line source name table inner table′
+  pub says : r ≡ answerOf inner
+
+pub record LooksOut (table : List ℕ) (line col : ℕ) (r : Answer) : Type 0 where
+  pub inner : Found
+  pub looks : Looks table line col inner
+  pub says : r ≡ record { code = foundCode inner; number = foundNumber inner }

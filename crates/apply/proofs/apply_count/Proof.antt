@@ -1,43 +1,30 @@
-use mathlib.Core.Path.{_≡_, sym, _∙_}
-use Rattle.apply.proofs.Laws.{four-took, four-not, five-took, five-not, five-unnamed, count-one, count-four, count-five, count-other, took-column, no-column}
+-- `apply::apply_count` meets its contract. Assumes nothing.
+use Rattle.apply.proofs.Laws.{count-one, count-four, count-five, count-other}
 use borrow.Author.Needs.{needs}
 use Rattle.apply.proofs.apply_count.Statement.{statement}
 use Rattle.apply.proofs.apply_count.Tie as tie
-use Rattle.apply.proofs.apply_count.Reads as reads
-use Rattle.apply.proofs.apply_count.Lts as lts
-use Rattle.apply.proofs.apply_five.Reads as apply-five-reads
-use Rattle.apply.proofs.apply_four.Reads as apply-four-reads
-use Rattle.apply.proofs.token_of.Reads as token-of-reads
 
--- src/lib.rt:161:28
 token-of-requires : tie.Need-token-of-requires
 token-of-requires c κs = search needs
 
--- src/lib.rt:162:14
 apply-four-requires : tie.Need-apply-four-requires
 apply-four-requires c κs = search needs
 
--- src/lib.rt:163:14
 apply-five-requires : tie.Need-apply-five-requires
 apply-five-requires c κs = search needs
 
--- src/lib.rt:164:52
 cast-t10 : tie.Need-cast-t10
 cast-t10 c = search needs
 
--- src/lib.rt:155:1
 returns : tie.Need-returns
 returns c = count-one (c .before .before .args .mode) (c .before .before .args .sources) (c .before .before .args .names) (c .before .before .args .s) (c .before .before .args .g) (c .before .match .keys1) _ (c .token-of .ensures)
 
--- src/lib.rt:155:1
 returns-2 : tie.Need-returns-2
 returns-2 c = count-four (c .before .before .args .mode) (c .before .before .args .sources) (c .before .before .args .names) (c .before .before .args .s) (c .before .before .args .g) (c .before .match .keys2) _ (c .apply-four .ensures)
 
--- src/lib.rt:155:1
 returns-3 : tie.Need-returns-3
 returns-3 c = count-five (c .before .before .args .mode) (c .before .before .args .sources) (c .before .before .args .names) (c .before .before .args .s) (c .before .before .args .g) (c .before .match .keys3) _ (c .apply-five .ensures)
 
--- src/lib.rt:155:1
 returns-4 : tie.Need-returns-4
 returns-4 c = count-other (c .before .args .mode) (c .before .args .sources) (c .before .args .names) (c .before .args .s) (c .before .args .g) (c .match .rest .0 .0 .1) (c .match .rest .0 .1) (c .match .rest .1)
 

@@ -1,34 +1,25 @@
-use mathlib.Core.Path.{_≡_, sym, _∙_}
-use Rattle.apply.proofs.Laws.{four-took, four-not, five-took, five-not, five-unnamed, count-one, count-four, count-five, count-other, took-column, no-column}
+-- `apply::apply_four` meets its contract. Assumes nothing.
+use mathlib.Core.Path.{sym, _∙_}
+use Rattle.apply.proofs.Laws.{four-took, four-not}
 use borrow.Author.Needs.{needs}
 use Rattle.apply.proofs.apply_four.Statement.{statement}
 use Rattle.apply.proofs.apply_four.Tie as tie
-use Rattle.apply.proofs.apply_four.Reads as reads
-use Rattle.apply.proofs.apply_four.Lts as lts
-use Rattle.apply.proofs.source.Reads as source-reads
-use Rattle.apply.proofs.token_of.Reads as token-of-reads
 
--- src/lib.rt:129:9
 source-requires : tie.Need-source-requires
 source-requires c κs = search needs
 
--- src/lib.rt:131:19
 enum-known-m : tie.Need-enum-known-m
 enum-known-m c = c .match .keys1
 
--- src/lib.rt:131:39
 token-of-requires : tie.Need-token-of-requires
 token-of-requires c κs = search needs
 
--- src/lib.rt:132:19
 enum-known-m-2 : tie.Need-enum-known-m-2
 enum-known-m-2 c = c .match .keys2
 
--- src/lib.rt:125:1
 returns : tie.Need-returns
 returns c = four-took (c .before .before .before .before .before .args .mode) (c .before .before .before .before .before .args .sources) 0 (c .before .before .before .before .before .args .s) (c .before .before .before .before .before .args .g) _ _ (sym (c .before .before .m .given .1) ∙ c .before .before .before .before .source .ensures) (c .token-of .ensures)
 
--- src/lib.rt:125:1
 returns-2 : tie.Need-returns-2
 returns-2 c = four-not (c .before .before .before .before .args .mode) (c .before .before .before .before .args .sources) 0 (c .before .before .before .before .args .s) (c .before .before .before .before .args .g) _ _ (sym (c .before .m2 .given .1) ∙ c .before .before .before .source .ensures)
 

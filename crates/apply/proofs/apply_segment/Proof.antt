@@ -1,34 +1,25 @@
-use mathlib.Core.Path.{_≡_, sym, _∙_}
-use Rattle.apply.proofs.Laws.{four-took, four-not, five-took, five-not, five-unnamed, count-one, count-four, count-five, count-other, took-column, no-column}
+-- `apply::apply_segment` meets its contract. Assumes nothing.
+use mathlib.Core.Path.{sym, _∙_}
+use Rattle.apply.proofs.Laws.{took-column, no-column}
 use borrow.Author.Needs.{needs}
 use Rattle.apply.proofs.apply_segment.Statement.{statement}
 use Rattle.apply.proofs.apply_segment.Tie as tie
-use Rattle.apply.proofs.apply_segment.Reads as reads
-use Rattle.apply.proofs.apply_segment.Lts as lts
-use Rattle.apply.proofs.apply_count.Reads as apply-count-reads
-use Rattle.apply.proofs.column.Reads as column-reads
 
--- src/lib.rt:173:9
 column-requires : tie.Need-column-requires
 column-requires c κs = search needs
 
--- src/lib.rt:175:19
 enum-known-c : tie.Need-enum-known-c
 enum-known-c c = c .match .keys1
 
--- src/lib.rt:176:19
 enum-known-c-2 : tie.Need-enum-known-c-2
 enum-known-c-2 c = c .match .keys2
 
--- src/lib.rt:176:25
 apply-count-requires : tie.Need-apply-count-requires
 apply-count-requires c κs = search needs
 
--- src/lib.rt:169:1
 returns : tie.Need-returns
 returns c = no-column (c .before .before .before .before .args .mode) (c .before .before .before .before .args .sources) (c .before .before .before .before .args .names) (c .before .before .before .before .args .s) (c .before .before .before .before .args .g) _ _ (sym (c .before .c .given .1) ∙ c .before .before .before .column .ensures)
 
--- src/lib.rt:169:1
 returns-2 : tie.Need-returns-2
 returns-2 c = took-column (c .before .before .before .before .before .args .mode) (c .before .before .before .before .before .args .sources) (c .before .before .before .before .before .args .names) (c .before .before .before .before .before .args .s) (c .before .before .before .before .before .args .g) _ _ (sym (c .before .before .c2 .given .1) ∙ c .before .before .before .before .column .ensures) (c .apply-count .ensures)
 

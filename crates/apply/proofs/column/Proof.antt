@@ -1,47 +1,36 @@
-use mathlib.Core.Path.{_≡_, sym, _∙_}
+-- `apply::column` meets its contract. Assumes nothing.
+use mathlib.Core.Path.{sym, _∙_}
 use lib.IntN.{ℤ, pos, _+ℤ_}
-use borrow.Author.Tests.{lt-ltb, le-ltb, eq-eqb, ne-eqb}
-use Rattle.sums.specs.Sums.{sumOf, idOf, nameSumOf}
-use Rattle.apply.specs.Apply.{columned, mapped, named, applied}
+use Rattle.sums.specs.Sums.{sumOf}
+use Rattle.apply.specs.Apply.{columned}
 use Rattle.apply.proofs.Laws.{few, told}
 use borrow.Author.Needs.{needs}
 use Rattle.apply.proofs.column.Statement.{statement}
 use Rattle.apply.proofs.column.Tie as tie
-use Rattle.apply.proofs.column.Reads as reads
-use Rattle.apply.proofs.column.Lts as lts
-use Rattle.sums.proofs.advance.Reads as advance-reads
 
--- src/lib.rt:61:46
 array-copy-out-advance : tie.Need-array-copy-out-advance
 array-copy-out-advance c = search needs
 
--- src/lib.rt:61:9
 advance-requires : tie.Need-advance-requires
 advance-requires c κs = few _ (c .before .before .pre) 0
 
--- src/lib.rt:63:37
 enum-told : tie.Need-enum-told
 enum-told c = c .match .keys1
 
--- src/lib.rt:64:33
 enum-told-2 : tie.Need-enum-told-2
 enum-told-2 c = c .match .keys2
 
--- src/lib.rt:65:18
 enum-known-col : tie.Need-enum-known-col
 enum-known-col c = c .match .keys3
 
--- src/lib.rt:56:1
 returns : tie.Need-returns
 unfolding columned
 returns c = rw (told (c .before .before .before .before .before .args .g) (c .before .before .before .before .before .pre) 0 (λ (z : ℤ). sumOf (c .before .before .before .before .before .args .mode) (pos (c .before .before .before .before .before .args .s .«dst_col») +ℤ z)) _ (sym (c .enum-told .given .1) ∙ c .before .before .advance .ensures))
 
--- src/lib.rt:56:1
 returns-2 : tie.Need-returns-2
 unfolding columned
 returns-2 c = rw (told (c .before .before .before .before .before .args .g) (c .before .before .before .before .before .pre) 0 (λ (z : ℤ). sumOf (c .before .before .before .before .before .args .mode) (pos (c .before .before .before .before .before .args .s .«dst_col») +ℤ z)) _ (sym (c .enum-told2 .given .1) ∙ c .before .before .advance .ensures))
 
--- src/lib.rt:56:1
 returns-3 : tie.Need-returns-3
 unfolding columned
 returns-3 c = rw (told (c .before .before .before .before .before .before .args .g) (c .before .before .before .before .before .before .pre) 0 (λ (z : ℤ). sumOf (c .before .before .before .before .before .before .args .mode) (pos (c .before .before .before .before .before .before .args .s .«dst_col») +ℤ z)) _ (sym (c .before .col .given .1) ∙ c .before .before .before .advance .ensures))

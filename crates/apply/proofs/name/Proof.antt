@@ -1,52 +1,41 @@
-use mathlib.Core.Path.{_≡_, sym, _∙_}
+-- `apply::name` meets its contract. Assumes nothing.
+use mathlib.Core.Path.{sym, _∙_}
 use lib.IntN.{ℤ, pos, _+ℤ_}
-use borrow.Author.Tests.{lt-ltb, le-ltb, eq-eqb, ne-eqb}
-use Rattle.sums.specs.Sums.{sumOf, idOf, nameSumOf}
-use Rattle.apply.specs.Apply.{columned, mapped, named, applied}
+use borrow.Author.Tests.{lt-ltb, le-ltb}
+use Rattle.sums.specs.Sums.{nameSumOf}
+use Rattle.apply.specs.Apply.{named}
 use Rattle.apply.proofs.Laws.{few, told}
 use borrow.Author.Needs.{needs}
 use Rattle.apply.proofs.name.Statement.{statement}
 use Rattle.apply.proofs.name.Tie as tie
-use Rattle.apply.proofs.name.Reads as reads
-use Rattle.apply.proofs.name.Lts as lts
-use Rattle.sums.proofs.name_after.Reads as name-after-reads
 
--- src/lib.rt:111:49
 array-copy-out-name-after : tie.Need-array-copy-out-name-after
 array-copy-out-name-after c = search needs
 
--- src/lib.rt:111:9
 name-after-requires : tie.Need-name-after-requires
 name-after-requires c κs = few _ (c .before .before .pre) 4
 
--- src/lib.rt:113:37
 enum-told : tie.Need-enum-told
 enum-told c = c .match .keys1
 
--- src/lib.rt:114:33
 enum-told-2 : tie.Need-enum-told-2
 enum-told-2 c = c .match .keys2
 
--- src/lib.rt:115:18
 enum-known-sum : tie.Need-enum-known-sum
 enum-known-sum c = c .match .keys3
 
--- src/lib.rt:119:17
 returns : tie.Need-returns
 unfolding named
 returns c = rw (told (c .before .before .before .before .before .before .before .args .g) (c .before .before .before .before .before .before .before .pre) 4 (λ (z : ℤ). nameSumOf (c .before .before .before .before .before .before .before .args .mode) (pos (c .before .before .before .before .before .before .before .args .s .«name_id») +ℤ z)) _ (sym (c .before .before .sum .given .1) ∙ c .before .before .before .before .name-after .ensures), lt-ltb (c .before .before .sum .given .0 .0) (c .before .before .before .before .before .before .before .args .names) (c .if1 .taken))
 
--- src/lib.rt:106:1
 returns-2 : tie.Need-returns-2
 unfolding named
 returns-2 c = rw (told (c .before .before .before .before .before .args .g) (c .before .before .before .before .before .pre) 4 (λ (z : ℤ). nameSumOf (c .before .before .before .before .before .args .mode) (pos (c .before .before .before .before .before .args .s .«name_id») +ℤ z)) _ (sym (c .enum-told .given .1) ∙ c .before .before .name-after .ensures))
 
--- src/lib.rt:106:1
 returns-3 : tie.Need-returns-3
 unfolding named
 returns-3 c = rw (told (c .before .before .before .before .before .args .g) (c .before .before .before .before .before .pre) 4 (λ (z : ℤ). nameSumOf (c .before .before .before .before .before .args .mode) (pos (c .before .before .before .before .before .args .s .«name_id») +ℤ z)) _ (sym (c .enum-told2 .given .1) ∙ c .before .before .name-after .ensures))
 
--- src/lib.rt:106:1
 returns-4 : tie.Need-returns-4
 unfolding named
 returns-4 c = rw (told (c .before .before .before .before .before .before .before .args .g) (c .before .before .before .before .before .before .before .pre) 4 (λ (z : ℤ). nameSumOf (c .before .before .before .before .before .before .before .args .mode) (pos (c .before .before .before .before .before .before .before .args .s .«name_id») +ℤ z)) _ (sym (c .before .before .sum .given .1) ∙ c .before .before .before .before .name-after .ensures), le-ltb (c .before .before .sum .given .0 .0) (c .before .before .before .before .before .before .before .args .names) (c .if1 .left))

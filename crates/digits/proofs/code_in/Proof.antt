@@ -1,20 +1,16 @@
-use mathlib.Core.Path.{_≡_, ap, _∙_}
+-- `digits::code_in` meets its contract. Assumes nothing.
+use mathlib.Core.Path.{ap, _∙_}
 use mathlib.Core.List.{List}
 use Prim.Native.Nat.{ℕ}
 use lib.ListN.{getD}
-use Rattle.digits.specs.Digits.{reading}
 use Rattle.digits.proofs.Tables.{reads}
 use borrow.Author.Needs.{needs}
 use Rattle.digits.proofs.code_in.Statement.{statement}
 use Rattle.digits.proofs.code_in.Tie as tie
-use Rattle.digits.proofs.code_in.Reads as reads
-use Rattle.digits.proofs.code_in.Lts as lts
 
--- src/lib.rt:52:5
 element-copy-out-result : tie.Need-element-copy-out-result
 element-copy-out-result c = search needs
 
--- src/lib.rt:48:1
 returns : tie.Need-returns
 returns c = ap (λ (l : List ℕ). getD l (c .before .args .b) 0) (c .before .pre) ∙ reads (c .before .args .b) (search needs)
 

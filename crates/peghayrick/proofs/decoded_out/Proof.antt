@@ -1,20 +1,14 @@
+-- `peghayrick::decoded_out` meets its contract. Assumes nothing.
 use borrow.Author.Needs.{needs}
 use Rattle.peghayrick.proofs.decoded_out.Statement.{statement}
 use Rattle.peghayrick.proofs.decoded_out.Tie as tie
-use Rattle.peghayrick.proofs.decoded_out.Reads as reads
-use Rattle.peghayrick.proofs.decoded_out.Lts as lts
-use Rattle.code.proofs.code_of.Reads as code-of-reads
-use Rattle.code.proofs.number_of.Reads as number-of-reads
 
--- src/lib.rt:25:15
 code-of-requires : tie.Need-code-of-requires
 code-of-requires c κs = search needs
 
--- src/lib.rt:26:17
 number-of-requires : tie.Need-number-of-requires
 number-of-requires c κs = search needs
 
--- src/lib.rt:20:1
 returns : tie.Need-returns
 returns c = rw (c .before .code-of .ensures, c .number-of .ensures)
 

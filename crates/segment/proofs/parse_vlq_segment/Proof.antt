@@ -1,4 +1,5 @@
-use mathlib.Core.Path.{_≡_, sym, _∙_}
+-- `segment::parse_vlq_segment` meets its contract. Assumes nothing.
+use mathlib.Core.Path.{sym, _∙_}
 use mathlib.Core.Logic.{⊎-elim}
 use Prim.Native.Nat.{_-_}
 use native.Mathlib.Omega.{arith}
@@ -8,11 +9,6 @@ use mir.Facts.{toZ-ofZ}
 use Rattle.segment.proofs.Loop.{Parsing, start, ends, cut, long, fits, less, count-fits, stores, counts}
 use Rattle.segment.proofs.parse_vlq_segment.Statement.{statement}
 use Rattle.segment.proofs.parse_vlq_segment.Tie as tie
-use Rattle.segment.proofs.parse_vlq_segment.Reads as reads
-use Rattle.segment.proofs.parse_vlq_segment.Lts as lts
-use Rattle.segment.proofs.broken.Reads as broken-reads
-use Rattle.value.proofs.value_of.Reads as value-of-reads
-use Rattle.vlq.proofs.next_vlq.Reads as next-vlq-reads
 
 abbrev Inv-loop : tie.InvT-loop
 Inv-loop t s mode at nums₀ starts₀ count₀ i₀ nums starts count i = Parsing mode s at nums starts count i
@@ -20,79 +16,60 @@ Inv-loop t s mode at nums₀ starts₀ count₀ i₀ nums starts count i = Parsi
 abbrev μ-loop : tie.MeasureT-loop
 μ-loop t s mode at nums₀ starts₀ count₀ i₀ nums starts count i = length s - i
 
--- src/lib.rt:45:5
 loop-holds : tie.Need-loop-holds Inv-loop μ-loop
 loop-holds c = start _ _ _
 
--- src/lib.rt:46:13
 next-vlq-requires : tie.Need-next-vlq-requires Inv-loop μ-loop
 next-vlq-requires c κs = search needs
 
--- src/lib.rt:50:26
 enum-told : tie.Need-enum-told Inv-loop μ-loop
 enum-told c = c .match .keys1
 
--- src/lib.rt:49:17
 returns : tie.Need-returns Inv-loop μ-loop
 returns c = ends _ _ _ _ _ _ _ (c .before .before .before .loop .inv) (sym (c .enum-told .given .1) ∙ c .before .before .next-vlq .ensures)
 
--- src/lib.rt:57:27
 enum-known-v : tie.Need-enum-known-v Inv-loop μ-loop
 enum-known-v c = c .match .keys2
 
--- src/lib.rt:58:17
 broken-requires : tie.Need-broken-requires Inv-loop μ-loop
 broken-requires c κs = search needs
 
--- src/lib.rt:58:17
 returns-2 : tie.Need-returns-2 Inv-loop μ-loop
 returns-2 c = c .broken .ensures ∙ cut _ _ _ _ _ _ _ (c .before .before .before .before .before .loop .inv) _ (sym (c .before .before .v .given .1) ∙ c .before .before .before .before .next-vlq .ensures)
 
--- src/lib.rt:60:27
 enum-known-v-2 : tie.Need-enum-known-v-2 Inv-loop μ-loop
 enum-known-v-2 c = c .match .keys3
 
--- src/lib.rt:61:17
 broken-requires-2 : tie.Need-broken-requires-2 Inv-loop μ-loop
 broken-requires-2 c κs = search needs
 
--- src/lib.rt:61:17
 returns-3 : tie.Need-returns-3 Inv-loop μ-loop
 returns-3 c = c .broken2 .ensures ∙ long _ _ _ _ _ _ _ (c .before .before .before .before .before .loop .inv) _ (sym (c .before .before .v2 .given .1) ∙ c .before .before .before .before .next-vlq .ensures)
 
--- src/lib.rt:63:24
 enum-known-v-3 : tie.Need-enum-known-v-3 Inv-loop μ-loop
 enum-known-v-3 c = c .match .keys4
 
--- src/lib.rt:64:21
 value-of-requires : tie.Need-value-of-requires Inv-loop μ-loop
 value-of-requires c κs = search needs
 
--- src/lib.rt:66:21
 mul-nums : tie.Need-mul-nums Inv-loop μ-loop
 mul-nums c = search needs
 
--- src/lib.rt:66:21
 array-set-from-nums : tie.Need-array-set-from-nums Inv-loop μ-loop
 array-set-from-nums c = search needs
 
--- src/lib.rt:67:21
 mul-starts : tie.Need-mul-starts Inv-loop μ-loop
 mul-starts c = search needs
 
--- src/lib.rt:67:21
 array-write-starts : tie.Need-array-write-starts Inv-loop μ-loop
 array-write-starts c = search needs
 
--- src/lib.rt:72:9
 add-count : tie.Need-add-count Inv-loop μ-loop
 add-count c = omega (arith, count-fits _ _ _ _ _ _ _ (c .before .before .before .before .before .before .loop .inv) _ _ _ (sym (c .before .before .before .v3 .given .1) ∙ c .before .before .before .before .before .next-vlq .ensures), c .before .before .before .before .before .before .before .before .good)
 
--- src/lib.rt:45:5
 loop-less : tie.Need-loop-less Inv-loop μ-loop
 loop-less c = ⊎-elim (λ w. rw (w .3) (less _ _ _ _ _ _ _ (c .before .before .before .before .before .before .loop .inv) _ _ _ (sym (c .before .before .before .v3 .given .1) ∙ c .before .before .before .before .before .next-vlq .ensures))) (λ w. rw (w .3) (less _ _ _ _ _ _ _ (c .before .before .before .before .before .before .loop .inv) _ _ _ (sym (c .before .before .before .v3 .given .1) ∙ c .before .before .before .before .before .next-vlq .ensures))) (c .if1 .came)
 
--- src/lib.rt:45:5
 loop-again : tie.Need-loop-again Inv-loop μ-loop
 loop-again c =
     let f = fits _ _ _ _ _ _ _ (c .before .before .before .before .before .before .loop .inv) _ _ _ (sym (c .before .before .before .v3 .given .1) ∙ c .before .before .before .before .before .next-vlq .ensures) in

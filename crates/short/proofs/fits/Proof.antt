@@ -1,50 +1,38 @@
-use Rattle.short.proofs.Laws.{shaped, unshaped, by-entry, at-most-five, fit-none, fit-some}
-use mathlib.Core.Bool.{Bool, true, false}
+-- `short::fits` meets its contract. Assumes nothing.
+use Rattle.short.proofs.Laws.{fit-none, fit-some}
+use mathlib.Core.Bool.{true, false}
 use lib.Dec.{T}
 use mathlib.Core.Path.{subst}
-use mathlib.Core.Path.{_≡_, sym, _∙_, ap}
-use native.Mathlib.Omega.{arith}
-use borrow.Author.Tests.{lt-ltb, le-ltb, eq-eqb, ne-eqb}
-use Rattle.short.proofs.Laws.{shaped, at-most-five, fit-none, fit-some}
+use mathlib.Core.Path.{_≡_, sym}
+use Rattle.short.proofs.Laws.{fit-none, fit-some}
 use borrow.Author.Needs.{needs}
 use Rattle.short.proofs.fits.Statement.{statement}
 use Rattle.short.proofs.fits.Tie as tie
-use Rattle.short.proofs.fits.Reads as reads
-use Rattle.short.proofs.fits.Lts as lts
-use Rattle.short.proofs.most.Reads as most-reads
 
--- src/lib.rt:101:9
 no-true : false ≡ true → ⊥
 no-true e = subst T (sym e) tt
 
 returns : tie.Need-returns
 returns c = λ w. absurd (no-true w)
 
--- src/lib.rt:104:9
 returns-2 : tie.Need-returns-2
 returns-2 c = λ w. absurd (no-true w)
 
--- src/lib.rt:107:9
 returns-3 : tie.Need-returns-3
 returns-3 c = λ w. absurd (no-true w)
 
--- src/lib.rt:110:9
 returns-4 : tie.Need-returns-4
 returns-4 c = λ w. absurd (no-true w)
 
--- src/lib.rt:112:8
 most-requires : tie.Need-most-requires
 most-requires c κs = search needs
 
--- src/lib.rt:113:9
 returns-5 : tie.Need-returns-5
 returns-5 c = λ w. absurd (no-true w)
 
--- src/lib.rt:116:9
 returns-6 : tie.Need-returns-6
 returns-6 c = λ w. fit-none _ _ _ _ _ (c .before .before .before .most .ensures) (c .before .before .before .before .before .before .before .before .before .before .before .before .fits .names .fits) (c .before .before .before .before .before .before .before .before .before .before .if1 .left) (c .before .before .before .before .before .before .before .before .if2 .left) (c .before .before .before .before .before .before .if3 .left) (c .before .before .before .before .if4 .left) (c .before .if5 .left) (c .if6 .taken) w
 
--- src/lib.rt:97:1
 returns-7 : tie.Need-returns-7
 returns-7 c = λ w. fit-some _ _ _ _ _ (c .before .before .before .most .ensures) (c .before .before .before .before .before .before .before .before .before .before .before .before .fits .names .fits) (c .before .before .before .before .before .before .before .before .before .before .if1 .left) (c .before .before .before .before .before .before .before .before .if2 .left) (c .before .before .before .before .before .before .if3 .left) (c .before .before .before .before .if4 .left) (c .before .if5 .left) (c .if6 .left)
 

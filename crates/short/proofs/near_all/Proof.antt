@@ -1,94 +1,66 @@
-use Rattle.short.proofs.Laws.{shaped, unshaped, by-entry, at-most-five, fit-none, fit-some}
-use Prim.Native.Nat.{ℕ, _+_, _%_}
-use mathlib.Core.Path.{_≡_, sym, _∙_, ap}
-use native.Mathlib.Omega.{arith}
-use borrow.Author.Tests.{lt-ltb, le-ltb, eq-eqb, ne-eqb}
-use Rattle.short.proofs.Laws.{shaped, at-most-five, fit-none, fit-some}
+-- `short::near_all` meets its contract. Assumes nothing.
+use Rattle.short.proofs.Laws.{by-entry}
 use borrow.Author.Needs.{needs}
 use Rattle.short.proofs.near_all.Statement.{statement}
 use Rattle.short.proofs.near_all.Tie as tie
-use Rattle.short.proofs.near_all.Reads as reads
-use Rattle.short.proofs.near_all.Lts as lts
-use Rattle.digits.proofs.short_in.Reads as short-in-reads
-use Rattle.short.proofs.moved_by.Reads as moved-by-reads
 
--- src/lib.rt:78:59
 shared-slice-read-short-in : tie.Need-shared-slice-read-short-in
 shared-slice-read-short-in c = search needs
 
--- src/lib.rt:78:39
 short-in-requires : tie.Need-short-in-requires
 short-in-requires c κs = search needs
 
--- src/lib.rt:78:18
 moved-by-requires : tie.Need-moved-by-requires
 moved-by-requires c κs = search needs
 
--- src/lib.rt:79:65
 add-short-in : tie.Need-add-short-in
 add-short-in c = search needs
 
--- src/lib.rt:79:63
 shared-slice-read-short-in-2 : tie.Need-shared-slice-read-short-in-2
 shared-slice-read-short-in-2 c = search needs
 
--- src/lib.rt:79:43
 short-in-requires-2 : tie.Need-short-in-requires-2
 short-in-requires-2 c κs = search needs
 
--- src/lib.rt:79:20
 moved-by-requires-2 : tie.Need-moved-by-requires-2
 moved-by-requires-2 c κs = search needs
 
--- src/lib.rt:80:63
 add-short-in-2 : tie.Need-add-short-in-2
 add-short-in-2 c = search needs
 
--- src/lib.rt:80:61
 shared-slice-read-short-in-3 : tie.Need-shared-slice-read-short-in-3
 shared-slice-read-short-in-3 c = search needs
 
--- src/lib.rt:80:41
 short-in-requires-3 : tie.Need-short-in-requires-3
 short-in-requires-3 c κs = search needs
 
--- src/lib.rt:80:19
 moved-by-requires-3 : tie.Need-moved-by-requires-3
 moved-by-requires-3 c κs = search needs
 
--- src/lib.rt:81:61
 add-short-in-3 : tie.Need-add-short-in-3
 add-short-in-3 c = search needs
 
--- src/lib.rt:81:59
 shared-slice-read-short-in-4 : tie.Need-shared-slice-read-short-in-4
 shared-slice-read-short-in-4 c = search needs
 
--- src/lib.rt:81:39
 short-in-requires-4 : tie.Need-short-in-requires-4
 short-in-requires-4 c κs = search needs
 
--- src/lib.rt:81:18
 moved-by-requires-4 : tie.Need-moved-by-requires-4
 moved-by-requires-4 c κs = search needs
 
--- src/lib.rt:82:61
 add-short-in-4 : tie.Need-add-short-in-4
 add-short-in-4 c = search needs
 
--- src/lib.rt:82:59
 shared-slice-read-short-in-5 : tie.Need-shared-slice-read-short-in-5
 shared-slice-read-short-in-5 c = search needs
 
--- src/lib.rt:82:39
 short-in-requires-5 : tie.Need-short-in-requires-5
 short-in-requires-5 c κs = search needs
 
--- src/lib.rt:82:18
 moved-by-requires-5 : tie.Need-moved-by-requires-5
 moved-by-requires-5 c κs = search needs
 
--- src/lib.rt:72:1
 returns : tie.Need-returns
 returns c = record { col = by-entry (c .before .before .before .before .before .before .before .before .before .before .before .before .moved-by .result) (c .before .before .before .before .before .before .before .before .before .before .before .before .before .before .before .before .args .st .«dst_col») (c .before .before .before .before .before .before .before .before .before .before .before .before .before .short-in .result) _ (c .before .before .before .before .before .before .before .before .before .before .before .before .moved-by .ensures) (c .before .before .before .before .before .before .before .before .before .before .before .before .before .short-in .ensures); source = by-entry (c .before .before .before .before .before .before .before .before .before .moved-by2 .result) (c .before .before .before .before .before .before .before .before .before .before .before .before .before .before .before .before .args .st .«source_id») (c .before .before .before .before .before .before .before .before .before .before .short-in2 .result) _ (c .before .before .before .before .before .before .before .before .before .moved-by2 .ensures) (c .before .before .before .before .before .before .before .before .before .before .short-in2 .ensures); line = by-entry (c .before .before .before .before .before .before .moved-by3 .result) (c .before .before .before .before .before .before .before .before .before .before .before .before .before .before .before .before .args .st .«src_line») (c .before .before .before .before .before .before .before .short-in3 .result) _ (c .before .before .before .before .before .before .moved-by3 .ensures) (c .before .before .before .before .before .before .before .short-in3 .ensures); scol = by-entry (c .before .before .before .moved-by4 .result) (c .before .before .before .before .before .before .before .before .before .before .before .before .before .before .before .before .args .st .«src_col») (c .before .before .before .before .short-in4 .result) _ (c .before .before .before .moved-by4 .ensures) (c .before .before .before .before .short-in4 .ensures); name = by-entry (c .moved-by5 .result) (c .before .before .before .before .before .before .before .before .before .before .before .before .before .before .before .before .args .st .«name_id») (c .before .short-in5 .result) _ (c .moved-by5 .ensures) (c .before .short-in5 .ensures) }
 

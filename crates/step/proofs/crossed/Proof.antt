@@ -1,33 +1,24 @@
-use mathlib.Core.Path.{_≡_, refl, sym, _∙_, ap}
-use native.Mathlib.Omega.{arith}
+-- `step::crossed` meets its contract. Assumes nothing.
 use borrow.Author.Tests.{eq-eqb, ne-eqb}
 use borrow.Author.Needs.{needs}
 use Rattle.step.proofs.crossed.Statement.{statement}
 use Rattle.step.proofs.crossed.Tie as tie
-use Rattle.step.proofs.crossed.Reads as reads
-use Rattle.step.proofs.crossed.Lts as lts
 
--- src/lib.rt:116:12
 add-r : tie.Need-add-r
 add-r c = search needs
 
--- src/lib.rt:118:24
 cast-r : tie.Need-cast-r
 cast-r c = search needs
 
--- src/lib.rt:118:24
 add-r-2 : tie.Need-add-r-2
 add-r-2 c = search needs
 
--- src/lib.rt:118:22
 cast-r-2 : tie.Need-cast-r-2
 cast-r-2 c = search needs
 
--- src/lib.rt:120:9
 returns : tie.Need-returns
 returns c = rw (eq-eqb (c .before .before .before .args .b) 59 (c .before .if1 .taken))
 
--- src/lib.rt:111:1
 returns-2 : tie.Need-returns-2
 returns-2 c = rw (ne-eqb (c .before .before .args .b) 59 (c .if1 .left))
 

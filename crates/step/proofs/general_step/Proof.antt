@@ -1,58 +1,39 @@
-use mathlib.Core.Path.{_≡_, refl, sym, _∙_, ap}
-use native.Mathlib.Omega.{arith}
-use borrow.Author.Tests.{eq-eqb, ne-eqb}
-use Rattle.step.proofs.Laws.{small, general-whole, general-leftover, general-overflow, Coming, begins, ends, segment-at, crosses, less}
+-- `step::general_step` meets its contract. Assumes nothing.
+use Rattle.step.proofs.Laws.{small, general-whole, general-leftover, general-overflow}
 use borrow.Author.Needs.{needs}
 use Rattle.step.proofs.general_step.Statement.{statement}
 use Rattle.step.proofs.general_step.Tie as tie
-use Rattle.step.proofs.general_step.Reads as reads
-use Rattle.step.proofs.general_step.Lts as lts
-use Rattle.apply.proofs.apply_segment.Reads as apply-segment-reads
-use Rattle.segment.proofs.parse_vlq_segment.Reads as parse-vlq-segment-reads
-use Rattle.step.proofs.offset_of.Reads as offset-of-reads
-use Rattle.step.proofs.step_of.Reads as step-of-reads
 
--- src/lib.rt:48:9
 parse-vlq-segment-requires : tie.Need-parse-vlq-segment-requires
 parse-vlq-segment-requires c κs = search needs
 
--- src/lib.rt:52:49
 enum-told : tie.Need-enum-told
 enum-told c = c .match .keys1
 
--- src/lib.rt:52:49
 apply-segment-requires : tie.Need-apply-segment-requires
 apply-segment-requires c κs = small (c .before .before .before .before .before .args .mode) (c .before .before .before .before .before .args .sources) (c .before .before .before .before .before .args .names) (c .before .before .before .before .before .args .s .now) (c .before .before .before .before .before .args .st) _ (c .before .before .before .parse-vlq-segment .ensures)
 
--- src/lib.rt:52:26
 step-of-requires : tie.Need-step-of-requires
 step-of-requires c κs = search needs
 
--- src/lib.rt:53:26
 enum-known-end : tie.Need-enum-known-end
 enum-known-end c = c .match .keys2
 
--- src/lib.rt:53:68
 offset-of-requires : tie.Need-offset-of-requires
 offset-of-requires c κs = search needs
 
--- src/lib.rt:54:26
 enum-known-end-2 : tie.Need-enum-known-end-2
 enum-known-end-2 c = c .match .keys3
 
--- src/lib.rt:54:68
 offset-of-requires-2 : tie.Need-offset-of-requires-2
 offset-of-requires-2 c κs = search needs
 
--- src/lib.rt:44:1
 returns : tie.Need-returns
 returns c = general-whole (c .before .before .before .before .before .before .before .args .mode) (c .before .before .before .before .before .before .before .args .sources) (c .before .before .before .before .before .before .before .args .names) (c .before .before .before .before .before .before .before .args .s .now) (c .before .before .before .before .before .before .before .args .st) _ (c .before .before .before .before .before .parse-vlq-segment .ensures) (c .before .before .enum-told .given .1) _ (c .before .apply-segment .ensures) _ (c .step-of .ensures)
 
--- src/lib.rt:44:1
 returns-2 : tie.Need-returns-2
 returns-2 c = general-leftover (c .before .before .before .before .before .before .before .args .mode) (c .before .before .before .before .before .before .before .args .sources) (c .before .before .before .before .before .before .before .args .names) (c .before .before .before .before .before .before .before .args .s .now) (c .before .before .before .before .before .before .before .args .st) _ (c .before .before .before .before .before .parse-vlq-segment .ensures) _ (c .before .before .end .given .1) _ (c .offset-of .ensures)
 
--- src/lib.rt:44:1
 returns-3 : tie.Need-returns-3
 returns-3 c = general-overflow (c .before .before .before .before .before .before .before .args .mode) (c .before .before .before .before .before .before .before .args .sources) (c .before .before .before .before .before .before .before .args .names) (c .before .before .before .before .before .before .before .args .s .now) (c .before .before .before .before .before .before .before .args .st) _ (c .before .before .before .before .before .parse-vlq-segment .ensures) _ (c .before .before .end2 .given .1) _ (c .offset-of2 .ensures)
 

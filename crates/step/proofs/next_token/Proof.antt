@@ -1,17 +1,12 @@
+-- `step::next_token` meets its contract. Assumes nothing.
 use borrow.Author.Needs.{needs}
-use mathlib.Core.Path.{_≡_, refl, sym, _∙_, ap}
+use mathlib.Core.Path.{refl}
 use native.Mathlib.Omega.{arith}
-use borrow.Author.Tests.{eq-eqb, ne-eqb}
-use Rattle.step.proofs.Laws.{small, general-whole, general-leftover, general-overflow, Coming, begins, ends, segment-at, crosses, less}
-use Prim.Native.Nat.{_-_, _≤_}
+use Rattle.step.proofs.Laws.{Coming, begins, ends, segment-at, crosses, less}
+use Prim.Native.Nat.{_-_}
 use lib.ListN.{length}
 use Rattle.step.proofs.next_token.Statement.{statement}
 use Rattle.step.proofs.next_token.Tie as tie
-use Rattle.step.proofs.next_token.Reads as reads
-use Rattle.step.proofs.next_token.Lts as lts
-use Rattle.digits.proofs.code_in.Reads as code-in-reads
-use Rattle.step.proofs.crossed.Reads as crossed-reads
-use Rattle.step.proofs.segment_step.Reads as segment-step-reads
 
 abbrev Inv-loop : tie.InvT-loop
 Inv-loop t u s mode sources names st₀ st = Coming mode sources names s st₀ st
@@ -19,39 +14,30 @@ Inv-loop t u s mode sources names st₀ st = Coming mode sources names s st₀ s
 abbrev μ-loop : tie.MeasureT-loop
 μ-loop t u s mode sources names st₀ st = length s - st .at
 
--- src/lib.rt:131:5
 loop-holds : tie.Need-loop-holds Inv-loop μ-loop
 loop-holds c = begins _ _ _ _ _
 
--- src/lib.rt:133:17
 shared-slice-read-b : tie.Need-shared-slice-read-b Inv-loop μ-loop
 shared-slice-read-b c = search needs
 
--- src/lib.rt:134:13
 code-in-requires : tie.Need-code-in-requires Inv-loop μ-loop
 code-in-requires c κs = search needs
 
--- src/lib.rt:137:17
 segment-step-requires : tie.Need-segment-step-requires Inv-loop μ-loop
 segment-step-requires c κs = search needs
 
--- src/lib.rt:137:17
 returns : tie.Need-returns Inv-loop μ-loop
 returns c = segment-at _ _ _ _ _ _ (c .before .before .before .before .before .before .loop .inv) (c .before .before .before .before .if1 .taken) _ refl (omega (arith, c .before .before .before .shared-slice-known2 .given (c .before .before .before .before .before .before .loop .st .at))) _ (c .before .before .code-in .ensures) (c .before .if2 .taken) _ (c .segment-step .ensures)
 
--- src/lib.rt:140:17
 crossed-requires : tie.Need-crossed-requires Inv-loop μ-loop
 crossed-requires c κs = search needs
 
--- src/lib.rt:131:5
 loop-less : tie.Need-loop-less Inv-loop μ-loop
 loop-less c = less _ _ _ _ _ _ (c .before .before .before .before .before .before .loop .inv) (c .before .before .before .before .if1 .taken) _ refl (omega (arith, c .before .before .before .shared-slice-known2 .given (c .before .before .before .before .before .before .loop .st .at))) _ (c .before .before .code-in .ensures) _ (c .crossed .ensures)
 
--- src/lib.rt:131:5
 loop-again : tie.Need-loop-again Inv-loop μ-loop
 loop-again c = crosses _ _ _ _ _ _ (c .before .before .before .before .before .before .loop .inv) (c .before .before .before .before .if1 .taken) _ refl (omega (arith, c .before .before .before .shared-slice-known2 .given (c .before .before .before .before .before .before .loop .st .at))) _ (c .before .before .code-in .ensures) (c .before .if2 .left) _ (c .crossed .ensures)
 
--- src/lib.rt:126:1
 returns-2 : tie.Need-returns-2 Inv-loop μ-loop
 returns-2 c = ends _ _ _ _ _ _ (c .before .before .loop .inv) (c .if1 .left)
 

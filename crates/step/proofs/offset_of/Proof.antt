@@ -1,14 +1,9 @@
-use borrow.Author.Needs.{needs}
-use mathlib.Core.Path.{_≡_, refl, sym, _∙_, ap}
-use native.Mathlib.Omega.{arith}
-use borrow.Author.Tests.{eq-eqb, ne-eqb}
+-- `step::offset_of` meets its contract. Assumes nothing.
+use mathlib.Core.Path.{refl}
 use Rattle.step.specs.Step.{offsetOf}
 use Rattle.step.proofs.offset_of.Statement.{statement}
 use Rattle.step.proofs.offset_of.Tie as tie
-use Rattle.step.proofs.offset_of.Reads as reads
-use Rattle.step.proofs.offset_of.Lts as lts
 
--- src/lib.rt:28:1
 returns : tie.Need-returns
 unfolding offsetOf
 returns c = refl

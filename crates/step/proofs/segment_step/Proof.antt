@@ -1,49 +1,33 @@
+-- `step::segment_step` meets its contract. Assumes nothing.
 use Rattle.short.proofs.Laws.{shaped-few}
-use mathlib.Core.Path.{_≡_, refl, sym, _∙_, ap}
+use mathlib.Core.Path.{_∙_}
 use native.Mathlib.Omega.{arith}
-use borrow.Author.Tests.{eq-eqb, ne-eqb}
 use Rattle.step.proofs.Short.{agrees}
-use Prim.Native.Nat.{_+_, _≤_, _^_, _<_}
 use borrow.Author.Needs.{needs}
 use Rattle.step.proofs.segment_step.Statement.{statement}
 use Rattle.step.proofs.segment_step.Tie as tie
-use Rattle.step.proofs.segment_step.Reads as reads
-use Rattle.step.proofs.segment_step.Lts as lts
-use Rattle.short.proofs.fits.Reads as fits-reads
-use Rattle.short.proofs.near_all.Reads as near-all-reads
-use Rattle.short.proofs.try_fast_4_or_5_segment.Reads as try-fast-4-or-5-segment-reads
-use Rattle.step.proofs.general_step.Reads as general-step-reads
-use Rattle.step.proofs.short_step.Reads as short-step-reads
 
--- src/lib.rt:98:13
 sub-if1 : tie.Need-sub-if1
 sub-if1 c = search needs
 
--- src/lib.rt:99:13
 try-fast-4-or-5-segment-requires : tie.Need-try-fast-4-or-5-segment-requires
 try-fast-4-or-5-segment-requires c κs = (c .before .before .pre .1 .0, (omega (arith, c .if1 .taken)))
 
--- src/lib.rt:101:17
 near-all-requires : tie.Need-near-all-requires
 near-all-requires c κs = (c .before .before .before .before .pre .1 .0, (omega (arith, c .before .before .if1 .taken)))
 
--- src/lib.rt:102:16
 fits-requires : tie.Need-fits-requires
 fits-requires c κs = search needs
 
--- src/lib.rt:103:17
 short-step-requires : tie.Need-short-step-requires
 short-step-requires c κs = (c .before .fits2 .ensures (c .if3 .taken), omega (arith, shaped-few _ _ _ (c .before .before .before .before .try-fast-4-or-5-segment .ensures (c .before .before .before .if2 .taken)), c .before .before .before .before .before .if1 .taken, (c .before .before .before .before .before .before .before .good)))
 
--- src/lib.rt:103:17
 returns : tie.Need-returns
 returns c = c .short-step .ensures ∙ agrees (c .before .before .before .before .before .before .before .before .args .mode) (c .before .before .before .before .before .before .before .before .args .s .now) (c .before .before .before .before .before .before .before .before .args .sources) (c .before .before .before .before .before .before .before .before .args .names) (c .before .before .before .before .before .before .before .before .args .st) _ (omega (arith, c .before .before .before .before .before .before .if1 .taken)) (c .before .before .before .near-all .ensures) _ (c .before .before .before .before .before .try-fast-4-or-5-segment .ensures (c .before .before .before .before .if2 .taken)) (c .before .before .fits2 .ensures (c .before .if3 .taken)) (c .before .before .before .before .before .before .before .before .fits .sources .fits)
 
--- src/lib.rt:107:5
 general-step-requires : tie.Need-general-step-requires
 general-step-requires c κs = search needs
 
--- src/lib.rt:93:1
 returns-2 : tie.Need-returns-2
 returns-2 c = search needs
 

@@ -1,17 +1,11 @@
-use borrow.Author.Needs.{needs}
-use mathlib.Core.Path.{_≡_, refl, sym, _∙_, ap}
-use native.Mathlib.Omega.{arith}
+-- `step::shown_name` meets its contract. Assumes nothing.
 use borrow.Author.Tests.{eq-eqb, ne-eqb}
 use Rattle.step.proofs.shown_name.Statement.{statement}
 use Rattle.step.proofs.shown_name.Tie as tie
-use Rattle.step.proofs.shown_name.Reads as reads
-use Rattle.step.proofs.shown_name.Lts as lts
 
--- src/lib.rt:62:9
 returns : tie.Need-returns
 returns c = rw (eq-eqb (c .before .args .k) 5 (c .if1 .taken))
 
--- src/lib.rt:58:1
 returns-2 : tie.Need-returns-2
 returns-2 c = rw (ne-eqb (c .before .args .k) 5 (c .if1 .left))
 

@@ -1,30 +1,20 @@
-use mathlib.Core.Path.{_≡_, refl, sym, _∙_, ap}
-use native.Mathlib.Omega.{arith}
-use borrow.Author.Tests.{eq-eqb, ne-eqb}
+-- `step::step_of` meets its contract. Assumes nothing.
 use borrow.Author.Needs.{needs}
 use Rattle.step.proofs.step_of.Statement.{statement}
 use Rattle.step.proofs.step_of.Tie as tie
-use Rattle.step.proofs.step_of.Reads as reads
-use Rattle.step.proofs.step_of.Lts as lts
-use Rattle.step.proofs.offset_of.Reads as offset-of-reads
 
--- src/lib.rt:38:23
 enum-known-a : tie.Need-enum-known-a
 enum-known-a c = c .match .keys1
 
--- src/lib.rt:39:26
 enum-known-a-2 : tie.Need-enum-known-a-2
 enum-known-a-2 c = c .match .keys2
 
--- src/lib.rt:39:61
 offset-of-requires : tie.Need-offset-of-requires
 offset-of-requires c κs = search needs
 
--- src/lib.rt:34:1
 returns : tie.Need-returns
 returns c = rw (c .before .a .given .1)
 
--- src/lib.rt:34:1
 returns-2 : tie.Need-returns-2
 returns-2 c = rw (c .before .before .a2 .given .1, c .offset-of .ensures)
 

@@ -1,43 +1,32 @@
+-- `sums::source_after` meets its contract. Assumes nothing.
 use borrow.Author.Needs.{needs}
-use mathlib.Core.Path.{_≡_, sym, _∙_}
-use Prim.Native.Nat.{_<_}
-use native.Mathlib.Omega.{arith}
+use mathlib.Core.Path.{sym, _∙_}
 use borrow.Author.Tests.{lt-ltb, le-ltb}
-use Rattle.sums.specs.Sums.{sumOf, idOf, nameSumOf}
+use Rattle.sums.specs.Sums.{idOf}
 use Rattle.sums.proofs.Sums.{was-up, was-down, held-few}
 use Rattle.sums.proofs.source_after.Statement.{statement}
 use Rattle.sums.proofs.source_after.Tie as tie
-use Rattle.sums.proofs.source_after.Reads as reads
-use Rattle.sums.proofs.source_after.Lts as lts
-use Rattle.sums.proofs.sum_of.Reads as sum-of-reads
 
--- src/lib.rt:70:9
 sum-of-requires : tie.Need-sum-of-requires
 sum-of-requires c κs = held-few (c .args .base) _ (c .fits .v) (c .pre)
 
--- src/lib.rt:72:25
 enum-told : tie.Need-enum-told
 enum-told c = c .match .keys1
 
--- src/lib.rt:73:17
 enum-known-sum : tie.Need-enum-known-sum
 enum-known-sum c = c .match .keys2
 
--- src/lib.rt:75:31
 cast-t9 : tie.Need-cast-t9
 cast-t9 c = search needs
 
--- src/lib.rt:75:17
 returns : tie.Need-returns
 unfolding idOf
 returns c = rw (was-up (c .before .before .before .before .before .args .base) (c .before .before .before .before .before .args .v) (c .before .before .before .before .before .fits .v) _ (sym (c .before .before .sum .given .1) ∙ c .before .before .before .before .sum-of .ensures), lt-ltb (c .before .before .sum .given .0 .0) (c .before .before .before .before .before .args .count) (c .if1 .taken))
 
--- src/lib.rt:66:1
 returns-2 : tie.Need-returns-2
 unfolding idOf
 returns-2 c = rw (was-down (c .before .before .before .args .base) (c .before .before .before .args .v) (c .before .before .before .fits .v) _ (sym (c .enum-told .given .1) ∙ c .before .before .sum-of .ensures))
 
--- src/lib.rt:66:1
 returns-3 : tie.Need-returns-3
 unfolding idOf
 returns-3 c = rw (was-up (c .before .before .before .before .before .args .base) (c .before .before .before .before .before .args .v) (c .before .before .before .before .before .fits .v) _ (sym (c .before .before .sum .given .1) ∙ c .before .before .before .before .sum-of .ensures), le-ltb (c .before .before .sum .given .0 .0) (c .before .before .before .before .before .args .count) (c .if1 .left))

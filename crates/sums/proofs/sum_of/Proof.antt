@@ -1,35 +1,27 @@
+-- `sums::sum_of` meets its contract. Assumes nothing.
 use Rattle.sums.proofs.Sums.{sum-fits, flip-fits, down-casts, down, up-casts, up}
 use borrow.Author.Needs.{needs}
 use Rattle.sums.proofs.sum_of.Statement.{statement}
 use Rattle.sums.proofs.sum_of.Tie as tie
-use Rattle.sums.proofs.sum_of.Reads as reads
-use Rattle.sums.proofs.sum_of.Lts as lts
 
--- src/lib.rt:18:16
 cast-sum : tie.Need-cast-sum
 cast-sum c = search needs
 
--- src/lib.rt:18:15
 add-sum : tie.Need-add-sum
 add-sum c = sum-fits (c .args .base) (c .args .v) (c .fits .base .fits) (c .pre)
 
--- src/lib.rt:20:21
 sub-below : tie.Need-sub-below
 sub-below c = flip-fits (c .before .args .base) (c .before .args .v) (c .before .fits .base .fits) (c .before .pre) (c .if1 .taken)
 
--- src/lib.rt:21:26
 cast-t7 : tie.Need-cast-t7
 cast-t7 c = down-casts (c .before .args .base) (c .before .args .v) (c .before .fits .base .fits) (c .before .pre) (c .if1 .taken)
 
--- src/lib.rt:21:9
 returns : tie.Need-returns
 returns c = down (c .before .args .base) (c .before .args .v) (c .before .fits .base .fits) (c .before .pre) (c .if1 .taken)
 
--- src/lib.rt:23:13
 cast-t8 : tie.Need-cast-t8
 cast-t8 c = up-casts (c .before .args .base) (c .before .args .v) (c .before .fits .base .fits) (c .before .pre) (c .if1 .left)
 
--- src/lib.rt:14:1
 returns-2 : tie.Need-returns-2
 returns-2 c = up (c .before .args .base) (c .before .args .v) (c .before .fits .base .fits) (c .before .pre) (c .if1 .left)
 

@@ -1,21 +1,16 @@
+-- `token::bad_table` meets its contract. Assumes nothing.
 use borrow.Author.Tests.{eq-eqb, ne-eqb}
 use Prim.Native.Nat.{_%_}
 use borrow.Author.Needs.{needs}
 use Rattle.token.proofs.bad_table.Statement.{statement}
 use Rattle.token.proofs.bad_table.Tie as tie
-use Rattle.token.proofs.bad_table.Reads as reads
-use Rattle.token.proofs.bad_table.Lts as lts
-use Rattle.token.proofs.places_in.Reads as places-in-reads
 
--- src/lib.rt:51:23
 places-in-requires : tie.Need-places-in-requires
 places-in-requires c κs = search needs
 
--- src/lib.rt:51:9
 returns : tie.Need-returns
 returns c = rw (c .places-in .ensures, eq-eqb (c .before .before .args .numbers % 6) 0 (c .before .if1 .taken))
 
--- src/lib.rt:47:1
 returns-2 : tie.Need-returns-2
 returns-2 c = rw (ne-eqb (c .before .args .numbers % 6) 0 (c .if1 .left))
 

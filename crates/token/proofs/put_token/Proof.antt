@@ -1,3 +1,4 @@
+-- `token::put_token` meets its contract. Assumes nothing.
 use native.Mathlib.Omega.{arith}
 use lib.ListN.{length-set}
 use Rattle.token.specs.Table.{putToken}
@@ -5,86 +6,64 @@ use Rattle.token.proofs.Laws.{stored}
 use borrow.Author.Needs.{needs}
 use Rattle.token.proofs.put_token.Statement.{statement}
 use Rattle.token.proofs.put_token.Tie as tie
-use Rattle.token.proofs.put_token.Reads as reads
-use Rattle.token.proofs.put_token.Lts as lts
 
--- src/lib.rt:75:14
 mul-at : tie.Need-mul-at
 mul-at c = search needs
 
--- src/lib.rt:76:5
 mul-table : tie.Need-mul-table
 mul-table c = search needs
 
--- src/lib.rt:76:5
 slice-write-table : tie.Need-slice-write-table
 slice-write-table c = search needs
 
--- src/lib.rt:77:11
 add-table : tie.Need-add-table
 add-table c = search needs
 
--- src/lib.rt:77:5
 mul-table-2 : tie.Need-mul-table-2
 mul-table-2 c = search needs
 
--- src/lib.rt:77:5
 slice-write-table-2 : tie.Need-slice-write-table-2
 slice-write-table-2 c = simp length-set (omega arith)
 
--- src/lib.rt:78:11
 add-table-2 : tie.Need-add-table-2
 add-table-2 c = search needs
 
--- src/lib.rt:78:5
 mul-table-3 : tie.Need-mul-table-3
 mul-table-3 c = search needs
 
--- src/lib.rt:78:5
 slice-write-table-3 : tie.Need-slice-write-table-3
 slice-write-table-3 c = simp length-set (omega arith)
 
--- src/lib.rt:79:11
 add-table-3 : tie.Need-add-table-3
 add-table-3 c = search needs
 
--- src/lib.rt:79:5
 mul-table-4 : tie.Need-mul-table-4
 mul-table-4 c = search needs
 
--- src/lib.rt:79:5
 slice-write-table-4 : tie.Need-slice-write-table-4
 slice-write-table-4 c = simp length-set (omega arith)
 
--- src/lib.rt:80:11
 add-table-4 : tie.Need-add-table-4
 add-table-4 c = search needs
 
--- src/lib.rt:80:5
 mul-table-5 : tie.Need-mul-table-5
 mul-table-5 c = search needs
 
--- src/lib.rt:80:5
 slice-write-table-5 : tie.Need-slice-write-table-5
 slice-write-table-5 c = simp length-set (omega arith)
 
--- src/lib.rt:81:11
 add-table-5 : tie.Need-add-table-5
 add-table-5 c = search needs
 
--- src/lib.rt:81:5
 mul-table-6 : tie.Need-mul-table-6
 mul-table-6 c = search needs
 
--- src/lib.rt:81:5
 slice-write-table-6 : tie.Need-slice-write-table-6
 slice-write-table-6 c = simp length-set (omega arith)
 
--- src/lib.rt:71:1
 same-length : tie.Need-same-length
 same-length c = search needs
 
--- src/lib.rt:71:1
 returns : tie.Need-returns
 unfolding putToken
 returns c = stored _ _ _ _ _ _ _ _ (omega arith)

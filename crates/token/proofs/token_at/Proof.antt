@@ -1,84 +1,64 @@
+-- `token::token_at` meets its contract. Assumes nothing.
 use mathlib.Core.Path.{refl}
 use Rattle.token.specs.Table.{tokenAt}
 use borrow.Author.Needs.{needs}
 use Rattle.token.proofs.token_at.Statement.{statement}
 use Rattle.token.proofs.token_at.Tie as tie
-use Rattle.token.proofs.token_at.Reads as reads
-use Rattle.token.proofs.token_at.Lts as lts
 
--- src/lib.rt:60:14
 mul-at : tie.Need-mul-at
 mul-at c = search needs
 
--- src/lib.rt:62:19
 mul-t4 : tie.Need-mul-t4
 mul-t4 c = search needs
 
--- src/lib.rt:62:19
 shared-slice-read-t6 : tie.Need-shared-slice-read-t6
 shared-slice-read-t6 c = search needs
 
--- src/lib.rt:63:24
 add-t7 : tie.Need-add-t7
 add-t7 c = search needs
 
--- src/lib.rt:63:18
 mul-t8 : tie.Need-mul-t8
 mul-t8 c = search needs
 
--- src/lib.rt:63:18
 shared-slice-read-t10 : tie.Need-shared-slice-read-t10
 shared-slice-read-t10 c = search needs
 
--- src/lib.rt:64:25
 add-t11 : tie.Need-add-t11
 add-t11 c = search needs
 
--- src/lib.rt:64:19
 mul-t12 : tie.Need-mul-t12
 mul-t12 c = search needs
 
--- src/lib.rt:64:19
 shared-slice-read-t14 : tie.Need-shared-slice-read-t14
 shared-slice-read-t14 c = search needs
 
--- src/lib.rt:65:24
 add-t15 : tie.Need-add-t15
 add-t15 c = search needs
 
--- src/lib.rt:65:18
 mul-t16 : tie.Need-mul-t16
 mul-t16 c = search needs
 
--- src/lib.rt:65:18
 shared-slice-read-t18 : tie.Need-shared-slice-read-t18
 shared-slice-read-t18 c = search needs
 
--- src/lib.rt:66:26
 add-t19 : tie.Need-add-t19
 add-t19 c = search needs
 
--- src/lib.rt:66:20
 mul-t20 : tie.Need-mul-t20
 mul-t20 c = search needs
 
--- src/lib.rt:66:20
 shared-slice-read-t22 : tie.Need-shared-slice-read-t22
 shared-slice-read-t22 c = search needs
 
--- src/lib.rt:67:24
 add-t23 : tie.Need-add-t23
 add-t23 c = search needs
 
--- src/lib.rt:67:18
 mul-t24 : tie.Need-mul-t24
 mul-t24 c = search needs
 
--- src/lib.rt:67:18
 shared-slice-read-t26 : tie.Need-shared-slice-read-t26
 shared-slice-read-t26 c = search needs
 
--- src/lib.rt:56:1
 returns : tie.Need-returns
 unfolding tokenAt
 returns c = refl

@@ -1,6 +1,5 @@
-use mathlib.Core.Path.{_≡_, refl, sym, _∙_, ap}
-use lib.IntN.{ℤ}
-use Rattle.value.specs.Value.{half, odd, signOf}
+-- `value::decode_sign` meets its contract. Assumes nothing.
+use Rattle.value.specs.Value.{half}
 use Rattle.value.proofs.Signed.{halved, negated, below-zero-fits, half-small, odd-yes, odd-no}
 use Rattle.value.proofs.decode_sign.Statement.{statement}
 use Rattle.value.proofs.decode_sign.Tie as tie

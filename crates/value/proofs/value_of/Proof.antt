@@ -1,19 +1,17 @@
-use mathlib.Core.Path.{_≡_, refl, sym, _∙_, ap}
+-- `value::value_of` meets its contract. Assumes nothing.
+use mathlib.Core.Path.{_∙_, ap}
 use mir.Facts.{toZ-ofZ}
 use Rattle.value.specs.Value.{signOf, valueOf}
 use borrow.Author.Needs.{needs}
 use Rattle.value.proofs.value_of.Statement.{statement}
 use Rattle.value.proofs.value_of.Tie as tie
 
--- src/lib.rt:34:23
 to-signed-requires : tie.Need-to-signed-requires
 to-signed-requires c κs = search needs
 
--- src/lib.rt:34:5
 decode-sign-requires : tie.Need-decode-sign-requires
 decode-sign-requires c κs = search needs
 
--- src/lib.rt:31:1
 returns : tie.Need-returns
 unfolding valueOf
 returns c = toZ-ofZ (search needs) ∙ c .decode-sign .ensures ∙ ap signOf (toZ-ofZ (search needs) ∙ c .before .to-signed .ensures)

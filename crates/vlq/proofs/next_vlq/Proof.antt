@@ -1,17 +1,12 @@
+-- `vlq::next_vlq` meets its contract. Assumes nothing.
 use mathlib.Core.Path.{sym}
-use Prim.Native.Nat.{_-_, _<_}
+use Prim.Native.Nat.{_-_}
 use native.Mathlib.Omega.{arith}
 use borrow.Author.Needs.{needs}
-use lib.ListN.{length, getD}
+use lib.ListN.{length}
 use Rattle.vlq.proofs.Steps.{Reading, past-end, begins-not, begins, ends, cut-at, over-at, last-at, turn-at}
 use Rattle.vlq.proofs.next_vlq.Statement.{statement}
 use Rattle.vlq.proofs.next_vlq.Tie as tie
-use Rattle.vlq.proofs.next_vlq.Reads as reads
-use Rattle.vlq.proofs.next_vlq.Lts as lts
-use Rattle.digits.proofs.code_in.Reads as code-in-reads
-use Rattle.vlq.proofs.lost_of.Reads as lost-of-reads
-use Rattle.vlq.proofs.put_digit.Reads as put-digit-reads
-use Rattle.vlq.proofs.wide.Reads as wide-reads
 
 abbrev Inv-loop : tie.InvT-loop
 Inv-loop t s at cur₀ k₀ i₀ cur k i = Reading s at cur k i
@@ -19,83 +14,63 @@ Inv-loop t s at cur₀ k₀ i₀ cur k i = Reading s at cur k i
 abbrev μ-loop : tie.MeasureT-loop
 μ-loop t s at cur₀ k₀ i₀ cur k i = length s - i
 
--- src/lib.rt:49:9
 returns : tie.Need-returns Inv-loop μ-loop
 returns c = sym (past-end _ _ (c .if1 .taken))
 
--- src/lib.rt:51:27
 shared-slice-read-code-in : tie.Need-shared-slice-read-code-in Inv-loop μ-loop
 shared-slice-read-code-in c = search needs
 
--- src/lib.rt:51:8
 code-in-requires : tie.Need-code-in-requires Inv-loop μ-loop
 code-in-requires c κs = search needs
 
--- src/lib.rt:52:9
 returns-2 : tie.Need-returns-2 Inv-loop μ-loop
 returns-2 c = begins-not _ _ (omega (arith, c .before .before .shared-slice-known2 .given (c .before .before .before .before .before .args .at))) (omega arith) _ (c .before .code-in .ensures) (c .if2 .taken)
 
--- src/lib.rt:57:5
 loop-holds : tie.Need-loop-holds Inv-loop μ-loop
 loop-holds c = begins _ _ (omega (arith, c .before .before .shared-slice-known2 .given (c .before .before .before .before .before .args .at))) (omega arith) _ (c .before .code-in .ensures) (c .if2 .left)
 
--- src/lib.rt:58:36
 shared-slice-read-code-in-2 : tie.Need-shared-slice-read-code-in-2 Inv-loop μ-loop
 shared-slice-read-code-in-2 c = search needs
 
--- src/lib.rt:58:13
 code-in-requires-2 : tie.Need-code-in-requires-2 Inv-loop μ-loop
 code-in-requires-2 c κs = search needs
 
--- src/lib.rt:60:13
 returns-3 : tie.Need-returns-3 Inv-loop μ-loop
 returns-3 c = cut-at _ _ _ _ _ (c .before .before .before .before .loop .inv) (c .before .before .before .loop-test .taken) (omega (arith, c .before .before .shared-slice-known3 .given (c .before .before .before .before .loop .i))) _ (c .before .code-in2 .ensures) (c .if3 .taken)
 
--- src/lib.rt:63:13
 returns-4 : tie.Need-returns-4 Inv-loop μ-loop
 returns-4 c = over-at _ _ _ _ _ (c .before .before .before .before .before .loop .inv) (c .before .before .before .before .loop-test .taken) (omega (arith, c .before .before .before .shared-slice-known3 .given (c .before .before .before .before .before .loop .i))) _ (c .before .before .code-in2 .ensures) (c .before .if3 .left) (c .if4 .taken)
 
--- src/lib.rt:65:38
 wide-requires : tie.Need-wide-requires Inv-loop μ-loop
 wide-requires c κs = search needs
 
--- src/lib.rt:65:13
 put-digit-requires : tie.Need-put-digit-requires Inv-loop μ-loop
 put-digit-requires c κs = (c .before .if4 .left, c .before .before .before .before .before .before .loop .inv .low (c .before .if4 .left))
 
--- src/lib.rt:67:48
 wide-requires-2 : tie.Need-wide-requires-2 Inv-loop μ-loop
 wide-requires-2 c κs = search needs
 
--- src/lib.rt:67:37
 lost-of-requires : tie.Need-lost-of-requires Inv-loop μ-loop
 lost-of-requires c κs = search needs
 
--- src/lib.rt:67:58
 add-t21 : tie.Need-add-t21 Inv-loop μ-loop
 add-t21 c = search needs
 
--- src/lib.rt:67:13
 returns-5 : tie.Need-returns-5 Inv-loop μ-loop
 returns-5 c = last-at _ _ _ _ _ (c .before .before .before .before .before .before .before .before .before .before .loop .inv) (c .before .before .before .before .before .before .before .before .before .loop-test .taken) (omega (arith, c .before .before .before .before .before .before .before .before .shared-slice-known3 .given (c .before .before .before .before .before .before .before .before .before .before .loop .i))) _ (c .before .before .before .before .before .before .before .code-in2 .ensures) (c .before .before .before .before .before .before .if3 .left) (c .before .before .before .before .before .if4 .left) _ (c .before .before .before .before .wide .ensures) _ (c .before .before .before .put-digit .ensures) (c .before .before .if5 .taken) _ _ (c .before .wide2 .ensures) (c .lost-of .ensures)
 
--- src/lib.rt:70:9
 add-k : tie.Need-add-k Inv-loop μ-loop
 add-k c = search needs
 
--- src/lib.rt:71:9
 add-i : tie.Need-add-i Inv-loop μ-loop
 add-i c = search needs
 
--- src/lib.rt:57:5
 loop-less : tie.Need-loop-less Inv-loop μ-loop
 loop-less c = search needs
 
--- src/lib.rt:57:5
 loop-again : tie.Need-loop-again Inv-loop μ-loop
 loop-again c = turn-at _ _ _ _ _ (c .before .before .before .before .before .before .before .before .loop .inv) (c .before .before .before .before .before .before .before .loop-test .taken) (omega (arith, c .before .before .before .before .before .before .shared-slice-known3 .given (c .before .before .before .before .before .before .before .before .loop .i))) _ (c .before .before .before .before .before .code-in2 .ensures) (c .before .before .before .before .if3 .left) (c .before .before .before .if4 .left) _ (c .before .before .wide .ensures) _ (c .before .put-digit .ensures) (c .if5 .left)
 
--- src/lib.rt:44:1
 returns-6 : tie.Need-returns-6 Inv-loop μ-loop
 returns-6 c = sym (ends _ _ _ _ _ (c .before .loop .inv) (c .loop-test .left))
 

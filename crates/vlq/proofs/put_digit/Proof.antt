@@ -1,38 +1,29 @@
-use Prim.Native.Nat.{_%_, _<_, _*_, _≤_}
+-- `vlq::put_digit` meets its contract. Assumes nothing.
+use Prim.Native.Nat.{_%_}
 use native.Mathlib.Omega.{arith}
 use Rattle.vlq.proofs.Places.{put-is, put-fits, lost-least}
 use borrow.Author.Needs.{needs}
 use Rattle.vlq.proofs.put_digit.Statement.{statement}
 use Rattle.vlq.proofs.put_digit.Tie as tie
-use Rattle.vlq.proofs.put_digit.Reads as reads
-use Rattle.vlq.proofs.put_digit.Lts as lts
-use Rattle.vlq.proofs.lost_of.Reads as lost-of-reads
 
--- src/lib.rt:39:9
 lost-of-requires : tie.Need-lost-of-requires
 lost-of-requires c κs = search needs
 
--- src/lib.rt:40:22
 mul-result : tie.Need-mul-result
 mul-result c = omega (arith, lost-least _ _ (c .before .args .d % 32) _ (c .before .pre .0) (c .before .pre .1) (omega arith) (c .lost-of .ensures))
 
--- src/lib.rt:40:13
 sub-result : tie.Need-sub-result
 sub-result c = lost-least _ _ (c .before .args .d % 32) _ (c .before .pre .0) (c .before .pre .1) (omega arith) (c .lost-of .ensures)
 
--- src/lib.rt:40:37
 mul-result-2 : tie.Need-mul-result-2
 mul-result-2 c = search needs
 
--- src/lib.rt:40:12
 shl-result : tie.Need-shl-result
 shl-result c = search needs
 
--- src/lib.rt:40:5
 add-result : tie.Need-add-result
 add-result c = record { fits = put-fits _ _ (c .before .args .d % 32) _ (c .before .pre .0) (c .before .pre .1) (omega arith) (c .lost-of .ensures) }
 
--- src/lib.rt:35:1
 returns : tie.Need-returns
 returns c = put-is _ _ (c .before .args .d % 32) _ (c .before .pre .0) (c .before .pre .1) (omega arith) (c .lost-of .ensures)
 

@@ -14,7 +14,7 @@ use Rattle.token.specs.Table.{places, badTable, tokensFrom}
 use Rattle.token.specs.declared.Token.{Token}
 use Rattle.token.specs.declared.TokenChunk.{TokenChunk}
 use Rattle.encode.specs.declared.Encoded.{Encoded}
-use Rattle.encode.specs.Chunk.{written, endOf, firstBack}
+use Rattle.chunk.specs.Chunk.{written, endOf, firstBack}
 
 -- the chunk's tokens
 abbrev pub tokensIn : List ℕ → TokenChunk → List Token

@@ -1,2 +1,2 @@
-pub mod Chunk
 pub mod Encode
+pub mod Passes

@@ -18,7 +18,7 @@ use Rattle.token.specs.declared.Token.{Token}
 use Rattle.token.specs.declared.TokenChunk.{TokenChunk}
 use Rattle.token.proofs.Laws.{length-tokens, tokens-add, tokens-none}
 use Rattle.encode.specs.declared.Encoded.{Encoded}
-use Rattle.encode.specs.Chunk.{baseOf, fieldsOf, bytesOf, after, written, endOf, firstBack}
+use Rattle.chunk.specs.Chunk.{baseOf, fieldsOf, bytesOf, after, written, endOf, firstBack}
 use Rattle.encode.specs.Encode.{tokensIn, bytesIn, badChunk, moved, refused, unlessBack, encoded, Encodes}
 use Rattle.round.specs.Terms.{fresh, textOf}
 use Rattle.round.specs.Chunks.{Call, upTo, whole, isDone, wroteBy, Joined, calls, callsOn, rising, lastEnd, roomy, Cuts}

@@ -10,7 +10,7 @@ use Rattle.list.specs.Pick.{pick, both}
 use Rattle.token.specs.Table.{none, isNone, row}
 use Rattle.token.specs.declared.Token.{Token}
 use Rattle.token.specs.declared.TokenChunk.{TokenChunk}
-use Rattle.encode.specs.Chunk.{baseOf, after}
+use Rattle.chunk.specs.Chunk.{baseOf, after}
 use Rattle.premises.specs.Premises.{idWithin, follows, follow}
 use Rattle.round.specs.Terms.{fits32}
 

@@ -15,7 +15,7 @@ use Rattle.vlq.specs.declared.Vlq.the-variants.{Value}
 use Rattle.vlq_write.specs.Write.{writeOf}
 use Rattle.segment.specs.Segment.{Field, whole, before, fieldsFrom}
 use Rattle.segment.proofs.Reach.{fields-skip}
-use Rattle.encode.specs.Chunk.{spelled}
+use Rattle.chunk.specs.Chunk.{spelled}
 use Rattle.round.proofs.Value.{head, value-back}
 
 -- what may stand after a segment: nothing, or a delimiter

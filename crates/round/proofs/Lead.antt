@@ -13,7 +13,7 @@ use Rattle.digits.specs.Digits.{isDelim}
 use Rattle.value.specs.declared.Mode.{Mode}
 use Rattle.step.specs.declared.Step.{Step}
 use Rattle.step.specs.Step.{stepFrom}
-use Rattle.encode.specs.Chunk.{lead}
+use Rattle.chunk.specs.Chunk.{lead}
 use Rattle.round.proofs.Fields.{Ends}
 use Rattle.apply.proofs.Takes.{state}
 

@@ -15,7 +15,7 @@ use Rattle.token.specs.declared.Token.{Token}
 use Rattle.token.specs.declared.TokenChunk.{TokenChunk}
 use Rattle.value.specs.declared.Mode.{Mode}
 use Rattle.decode.specs.Mapping.{decoded}
-use Rattle.encode.specs.Chunk.{fieldsOf, after, firstBack}
+use Rattle.chunk.specs.Chunk.{fieldsOf, after, firstBack}
 use Rattle.premises.specs.Premises.{idWithin, follows, follow, premises, decides}
 use Rattle.round.specs.Terms.{fresh, textOf, takes, takesEach, takesFrom, takesAll}
 use Rattle.round.specs.Demand3.{Sound, SoundTable}

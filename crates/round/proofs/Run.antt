@@ -22,7 +22,7 @@ use Rattle.step.specs.declared.Step.{Step}
 use Rattle.apply.specs.Apply.{applied}
 use Rattle.step.specs.Step.{stepped, segmentStep, stepFrom, stepAt}
 use Rattle.decode.specs.Mapping.{ahead, run}
-use Rattle.encode.specs.Chunk.{lead, baseOf, fieldsOf, spelled, bytesOf, after, written}
+use Rattle.chunk.specs.Chunk.{lead, baseOf, fieldsOf, spelled, bytesOf, after, written}
 use Rattle.round.specs.Terms.{fits32, takesEach, takesFrom}
 use Rattle.round.proofs.Value.{Head, head, head-append}
 use Rattle.round.proofs.Fields.{Ends, fieldsAt, fields-back}

@@ -19,7 +19,7 @@ use Rattle.sums.specs.Sums.{sumOf, idOf}
 use Rattle.sums.specs.declared.Kept.{Kept}
 use Rattle.sums.specs.declared.Id.{Id}
 use Rattle.vlq_write.specs.Write.{vlqValue}
-use Rattle.encode.specs.Chunk.{baseOf, fieldsOf, after}
+use Rattle.chunk.specs.Chunk.{baseOf, fieldsOf, after}
 use Rattle.round.specs.Terms.{takes, takesEach}
 use Rattle.round.proofs.Value.{value-less}
 use Rattle.round.proofs.Fields.{Small, fieldsAt}

@@ -14,7 +14,7 @@ use Rattle.value.specs.declared.Mode.{Mode}
 use Rattle.decode.specs.declared.Decoded.{Decoded}
 use Rattle.decode.specs.Mapping.{decoded, Decodes}
 use Rattle.encode.specs.declared.Encoded.{Encoded}
-use Rattle.encode.specs.Chunk.{written, endOf, firstBack}
+use Rattle.chunk.specs.Chunk.{written, endOf, firstBack}
 use Rattle.encode.specs.Encode.{encoded, Encodes}
 use Rattle.premises.specs.Premises.{premises, decides}
 use Rattle.round.specs.Terms.{SameTokens, SameTable, fits32, fresh, textOf, takesAll, ReadsBack}

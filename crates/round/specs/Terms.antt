@@ -11,7 +11,7 @@ use Rattle.token.specs.declared.Token.{Token}
 use Rattle.token.specs.declared.TokenChunk.{TokenChunk}
 use Rattle.value.specs.declared.Mode.{Mode}
 use Rattle.decode.specs.Mapping.{Out}
-use Rattle.encode.specs.Chunk.{fieldsOf, after, written}
+use Rattle.chunk.specs.Chunk.{fieldsOf, after, written}
 
 -- when lists of tokens count as the same
 abbrev pub SameTokens : List Token → List Token → Type 0

@@ -7,7 +7,7 @@ use Rattle.token.specs.Table.{none, tokenAt, tokensFrom, tokensOf}
 use Rattle.token.specs.declared.TokenChunk.{TokenChunk}
 use Rattle.digits.specs.Digits.{charOf}
 use Rattle.vlq_write.specs.Write.{vlqValue, digitsOf}
-use Rattle.encode.specs.Chunk.{lead, baseOf, fieldsOf, spelled, bytesOf, after, written, endOf, firstBack}
+use Rattle.chunk.specs.Chunk.{lead, baseOf, fieldsOf, spelled, bytesOf, after, written, endOf, firstBack}
 use Rattle.encode.specs.Encode.{encoded}
 use Rattle.premises.specs.Premises.{follows, follow, decides}
 use Rattle.round.specs.Terms.{textOf}

@@ -1,0 +1,4 @@
+pub mod Fields
+pub mod Lead
+pub mod Lists
+pub mod State

@@ -1,0 +1,75 @@
+-- Each answer of the writer, on the definitions alone. Assumes nothing.
+use mathlib.Core.Path.{_≡_, refl, sym, _∙_, subst}
+use mathlib.Core.Bool.{true, false}
+use mathlib.Core.List.{List}
+use Prim.Native.Nat.{ℕ, _≤_, _<_}
+use lib.Dec.{eqb}
+use lib.ListN.{length}
+use borrow.Author.Tests.{lt-ltb, le-ltb}
+use Rattle.list.specs.Memory.{onto}
+use Rattle.list.specs.Pick.{pick}
+use Rattle.code.specs.Code.{codeOf}
+use Rattle.code.specs.declared.Code.{Code}
+use Rattle.token.specs.Table.{places, badTable}
+use Rattle.token.specs.declared.TokenChunk.{TokenChunk}
+use Rattle.encode.specs.Encode.{bytesIn, refused, encoded, Encodes}
+use Rattle.encode.specs.Passes.{Inside, Rising, Lined, Bounds, Writable, Writes}
+use Rattle.encode.specs.declared.Encoded.{Encoded}
+use Rattle.encode.specs.declared.Order.{Order}
+use Rattle.encode.specs.declared.Order.the-variants.{Back, Forth}
+
+pub inside : (table : List ℕ) (c : TokenChunk) (n : ℕ) → n ≡ places (length table) → c .start ≤ c .end → c .end ≤ n → Inside table c
+inside table c n en h k = record { order = h; within = rw en at k }
+
+module _ (table : List ℕ) (c : TokenChunk) (out : List ℕ) where
+  -- the defined answer, and what goes with it
+  by : (x : Encoded) → encoded table c (length out) ≡ x → (out′ : List ℕ) → out′ ≡ pick (eqb (codeOf (x .code)) 0) (onto (bytesIn table c) out) out
+      → (r : Encoded) → r ≡ x → Encodes table c out r out′
+  by x e out′ w r er = record { says = er ∙ sym e; wrote = rw e w }
+
+  pub bad-table : badTable (length table) ≡ true → (r : Encoded) → r ≡ refused c Code.BadTable → Encodes table c out r out
+  unfolding encoded
+  bad-table t = by (refused c Code.BadTable) (rw t) out refl
+
+  module _ (t : badTable (length table) ≡ false) where
+    pub out-of-order : c .end < c .start → (r : Encoded) → r ≡ refused c Code.BadChunk → Encodes table c out r out
+    unfolding encoded
+    out-of-order h = by (refused c Code.BadChunk) (rw (t, lt-ltb _ _ h)) out refl
+
+    -- n is the table's tokens, as the code has them
+    pub out-of-table : (n : ℕ) → n ≡ places (length table) → c .start ≤ c .end → n < c .end → (r : Encoded) → r ≡ refused c Code.BadChunk → Encodes table c out r out
+    unfolding encoded
+    out-of-table n en h k =
+        let k′ : places (length table) < c .end = rw en at k in
+        by (refused c Code.BadChunk) (rw (t, le-ltb _ _ h, lt-ltb _ _ k′)) out refl
+
+    module _ (h : Inside table c) (l : Order) (ll : Lined table c l) where
+      pub goes-back : (i : ℕ) → l ≡ Back i → (r : Encoded) → r ≡ refused c (Code.LineGoesBack i) → Encodes table c out r out
+      unfolding encoded Lined
+      goes-back i e =
+          let b = subst (Lined table c) e ll in
+          by (refused c (Code.LineGoesBack i)) (rw (t, le-ltb _ _ (h .order), le-ltb _ _ (h .within), b)) out refl
+
+      module _ (last : ℕ) (e : l ≡ Forth last) where
+        pub rising : Rising table c last
+        unfolding Lined
+        rising = subst (Lined table c) e ll
+
+        -- needed is the count as the code has it
+        module _ (needed : ℕ) (b : Bounds (length (bytesIn table c)) (length out) needed) where
+          pub no-room : length out < needed → (r : Encoded) → r ≡ refused c (Code.NoRoom needed) → Encodes table c out r out
+          unfolding encoded
+          no-room k r er =
+              let q = b .exact k in
+              let k′ : length out < length (bytesIn table c) = rw q at k in
+              by (refused c (Code.NoRoom (length (bytesIn table c))))
+              (rw (t, le-ltb _ _ (h .order), le-ltb _ _ (h .within), rising .forth, lt-ltb _ _ k′)) out refl r (rw q at er)
+
+          module _ (k : needed ≤ length out) where
+            pub writable : Writable table c out
+            writable = record { inside = h; forth = rising .forth; room = b .enough k }
+
+            pub done : (r : Encoded) (out′ : List ℕ) → Writes table c out r out′ → Encodes table c out r out′
+            unfolding encoded
+            done r out′ w =
+                by _ (rw (t, le-ltb _ _ (h .order), le-ltb _ _ (h .within), rising .forth, le-ltb _ _ (b .enough k))) out′ (w .wrote) r (w .says)

@@ -2,19 +2,21 @@
 use mathlib.Core.Path.{_≡_}
 use mathlib.Core.List.{List}
 use Prim.Native.Nat.{ℕ}
-use lib.ListN.{length}
 use Rattle.code.specs.Code.{codeOf, numberOf}
 use Rattle.code.specs.declared.Code.{Code}
-use Rattle.token.specs.Table.{places, over}
+use Rattle.token.specs.declared.TokenChunk.{TokenChunk}
 use Rattle.value.specs.declared.Mode.{Mode}
-use Rattle.decode.specs.Mapping.{decoded, answer, Decodes}
+use Rattle.decode.specs.Mapping.{Decodes}
 use Rattle.decode.specs.declared.Decoded.{Decoded}
+use Rattle.encode.specs.Encode.{Encodes}
+use Rattle.encode.specs.declared.Encoded.{Encoded}
 use Rattle.translate.specs.Translate.{Translates}
 use Rattle.records.specs.Records.{answerOf}
 use Rattle.records.specs.declared.Answer.{Answer}
 use Rattle.lookup.specs.Lookup.{Looks, foundCode, foundNumber}
 use Rattle.lookup.specs.declared.Found.{Found}
 use Rattle.peghayrick.specs.declared.DecodedOut.{DecodedOut}
+use Rattle.peghayrick.specs.declared.EncodedOut.{EncodedOut}
 
 abbrev pub decodedOut : Decoded → DecodedOut
 decodedOut d = record { code = codeOf (d .code); number = numberOf (d .code); tokens = d .tokens; offset = d .offset }
@@ -23,6 +25,14 @@ pub record DecodesOut (mode : Mode) (sources names : ℕ) (text table : List ℕ
   pub inner : Decoded
   pub decodes : Decodes mode sources names text table inner table′
   pub says : r ≡ decodedOut inner
+
+abbrev pub encodedOut : Encoded → EncodedOut
+encodedOut e = record { code = codeOf (e .code); number = numberOf (e .code); bytes = e .bytes; next = e .next }
+
+pub record EncodesOut (table : List ℕ) (c : TokenChunk) (out : List ℕ) (r : EncodedOut) (out′ : List ℕ) : Type 0 where
+  pub inner : Encoded
+  pub encodes : Encodes table c out inner out′
+  pub says : r ≡ encodedOut inner
 
 pub record TranslatesOut (line source name : ℕ) (table : List ℕ) (r : Answer) (table′ : List ℕ) : Type 0 where
   pub inner : Code

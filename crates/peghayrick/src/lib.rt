@@ -1,12 +1,14 @@
 // Every public entry, exported under its C name. Each answers what the entry behind it answers, a code as its two numbers.
 use code::Code;
 use decode::Decoded;
+use encode::Encoded;
 use records::Answer;
 use token::Token;
+use token::TokenChunk;
 ghost use mathlib.Core.Path.{_≡_};
 ghost use Rattle.value.specs.declared.Mode.{Mode};
 ghost use Rattle.records.specs.Records.{TranslatesRecords, answerOf};
-ghost use Rattle.peghayrick.specs.Exports.{decodedOut, DecodesOut, TranslatesOut, LooksOut};
+ghost use Rattle.peghayrick.specs.Exports.{decodedOut, DecodesOut, encodedOut, EncodesOut, TranslatesOut, LooksOut};
 
 // A decode's code and number, how many tokens it wrote, and the offset.
 #[repr(C)]
@@ -15,6 +17,15 @@ pub struct DecodedOut {
     pub number: u64,
     pub tokens: usize,
     pub offset: usize,
+}
+
+// A writer's code and number, the bytes it wrote, and the state for the next chunk.
+#[repr(C)]
+pub struct EncodedOut {
+    pub code: u64,
+    pub number: u64,
+    pub bytes: usize,
+    pub next: TokenChunk,
 }
 
 fn decoded_out(d: Decoded) -> DecodedOut
@@ -26,6 +37,19 @@ fn decoded_out(d: Decoded) -> DecodedOut
         number: code::number_of(c),
         tokens: d.tokens,
         offset: d.offset,
+    }
+}
+
+fn encoded_out(e: Encoded) -> EncodedOut
+    ensures { λ r. ⌜ r ≡ encodedOut e ⌝ }
+{
+    let c = e.code;
+    let next = e.next;
+    EncodedOut {
+        code: code::code_of(c),
+        number: code::number_of(c),
+        bytes: e.bytes,
+        next,
     }
 }
 
@@ -68,6 +92,13 @@ pub extern "C" fn pgk_decode_checked(
     ensures { λ r. ⌜ DecodesOut Mode.Checked sources names (now (text .entry)) (now (table .entry)) r (now (table .exit)) ⌝ }
 {
     decoded_out(decode::decode_checked(text, sources, names, table))
+}
+
+#[no_mangle]
+pub extern "C" fn pgk_encode(table: &[u32], chunk: TokenChunk, out: &mut [u8]) -> EncodedOut
+    ensures { λ r. ⌜ EncodesOut (now (table .entry)) chunk (now (out .entry)) r (now (out .exit)) ⌝ }
+{
+    encoded_out(encode::serialize_mappings(table, chunk, out))
 }
 
 #[no_mangle]

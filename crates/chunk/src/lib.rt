@@ -11,6 +11,7 @@ ghost use Rattle.vlq_write.specs.Put.{Put};
 ghost use Rattle.chunk.specs.Chunk.{lead, baseOf, spelled, bytesOf, after};
 ghost use Rattle.chunk.specs.Parts.{LeadSize, NameSize, sourceOf, SourceSize};
 
+// The column that a token's column is counted from.
 fn base_of(p: TokenChunk, t: Token) -> u32
     ensures { λ r. ⌜ r ≡ baseOf p t ⌝ }
 {
@@ -21,6 +22,7 @@ fn base_of(p: TokenChunk, t: Token) -> u32
     }
 }
 
+// The state that a token leaves.
 pub fn after(p: TokenChunk, t: Token) -> TokenChunk
     ensures { λ r. ⌜ r ≡ after p t ⌝ }
 {
@@ -40,6 +42,7 @@ pub fn after(p: TokenChunk, t: Token) -> TokenChunk
     r
 }
 
+// The bytes before a token's fields: `,`, `;`s or none.
 fn lead_size(first: bool, from: u32, to: u32) -> u64
     requires { ⌜ from ≤ to ⌝ }
     ensures { λ r. ⌜ LeadSize first from to r ⌝ }
@@ -64,6 +67,7 @@ fn name_of(p: TokenChunk, t: Token) -> u32
     }
 }
 
+// 1 for a token without a name, else 0.
 fn unnamed(t: Token) -> u64
     ensures { λ r. ⌜ r ≡ pick (isNone (t .«name_id»)) 1 0 ⌝ }
 {
@@ -77,6 +81,7 @@ fn name_size(p: TokenChunk, t: Token) -> u64
     vlq_write::step_size(name_of(p, t), p.prev_name_id) - unnamed(t)
 }
 
+// The fields after the first, of a token with a source.
 fn source_size(p: TokenChunk, t: Token) -> u64
     ensures { λ r. ⌜ SourceSize p t r ⌝ }
 {
@@ -86,6 +91,7 @@ fn source_size(p: TokenChunk, t: Token) -> u64
         + name_size(p, t)
 }
 
+// All the bytes of a token.
 pub fn token_size(first: bool, p: TokenChunk, t: Token) -> u64
     requires { ⌜ p .«prev_dst_line» ≤ t .«dst_line» ⌝ }
     ensures { λ r. ⌜ r ≡ length (bytesOf first p t) ⌝ }
@@ -105,7 +111,7 @@ fn put_semis(out: &mut [u8], at: usize, count: u32) -> usize
     let mut i = at;
     let mut k: u32 = 0;
     while k < count {
-        out[i] = 59;
+        out[i] = b';';
         i += 1;
         k += 1;
     }
@@ -122,16 +128,17 @@ fn put_lead(out: &mut [u8], at: usize, first: bool, from: u32, to: u32) -> usize
         if first {
             return at;
         }
-        out[at] = 44;
+        out[at] = b',';
         return at + 1;
     }
-    out[at] = 59;
+    out[at] = b';';
     if to - from == 1 {
         return at + 1;
     }
     put_semis(out, at + 1, to - from - 1)
 }
 
+// The fields after the first, of a token with a source.
 fn put_source(w: &[u8; 64], out: &mut [u8], at: usize, p: TokenChunk, t: Token) -> usize
     requires { ⌜ now w ≡ writing ⌝ }
     requires { ⌜ at + length (spelled (sourceOf p t)) ≤ length (now out) ⌝ }
@@ -146,6 +153,7 @@ fn put_source(w: &[u8; 64], out: &mut [u8], at: usize, p: TokenChunk, t: Token) 
     vlq_write::put_step(w, out, c, t.name_id, p.prev_name_id)
 }
 
+// All the bytes of a token, from `at` on; the place after them.
 pub fn put_token(
     w: &[u8; 64],
     out: &mut [u8],

@@ -25,6 +25,7 @@ pub record Rising (table : List ℕ) (c : TokenChunk) (last : ℕ) : Type 0 wher
   pub later : c .«prev_dst_line» ≤ last
   pub most : length (bytesIn table c) ≤ 36 * (c .end - c .start) + (last - c .«prev_dst_line»)
 
+-- what the pass over the lines found
 unfoldable pub Lined : List ℕ → TokenChunk → Order → Type 0
 Lined table c (Back i) = firstBack (c .start) (c .«prev_dst_line») (tokensIn table c) ≡ some i
 Lined table c (Forth last) = Rising table c last

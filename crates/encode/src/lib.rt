@@ -30,6 +30,7 @@ fn refused(chunk: TokenChunk, code: Code) -> Encoded
     }
 }
 
+// The state for the chunk that begins at `end`.
 fn moved(end: u32, p: TokenChunk) -> TokenChunk
     ensures { λ r. ⌜ r ≡ moved end p ⌝ }
 {
@@ -45,6 +46,7 @@ fn moved(end: u32, p: TokenChunk) -> TokenChunk
     }
 }
 
+// The pass over the lines: nothing is written before it has found none that goes back.
 fn lines(table: &[u32], chunk: TokenChunk) -> Order
     requires { ⌜ Inside (now table) chunk ⌝ }
     ensures { λ r. ⌜ Lined (now (table .entry)) chunk r ⌝ }
@@ -62,6 +64,7 @@ fn lines(table: &[u32], chunk: TokenChunk) -> Order
     Order::Forth(line)
 }
 
+// The pass that counts the bytes, where the bound does not say enough.
 fn measured(table: &[u32], chunk: TokenChunk) -> u64
     requires { ⌜ Measurable (now table) chunk ⌝ }
     ensures { λ r. ⌜ r ≡ length (bytesIn (now (table .entry)) chunk) ⌝ }
@@ -113,6 +116,7 @@ fn bytes_most(table: &[u32], chunk: TokenChunk, last: u32, room: u64) -> u64
     measured(table, chunk)
 }
 
+// Lent 36 bytes for each token and one for each line advanced, it need not measure.
 pub fn serialize_mappings(table: &[u32], chunk: TokenChunk, out: &mut [u8]) -> Encoded
     ensures { λ r. ⌜ Encodes (now (table .entry)) chunk (now (out .entry)) r (now (out .exit)) ⌝ }
 {

@@ -1,0 +1,163 @@
+// Demand 3, running: writes a table in chunks of every size, joins the bytes, decodes them in both modes and compares.
+use token::Token;
+use token::TokenChunk;
+
+// The i-th token of a list that meets the premises: every third has no source and repeats the source position.
+fn token_of(i: u32) -> Token {
+    let k = i % 32;
+    let from = k - k % 3;
+    if k % 3 == 2 {
+        return Token {
+            dst_line: k / 4,
+            dst_col: k % 4 * 1000,
+            src_line: (from + 1) * 70000,
+            src_col: 4294967295 - from,
+            source_id: token::NONE,
+            name_id: token::NONE,
+        };
+    }
+    Token {
+        dst_line: k / 4,
+        dst_col: k % 4 * 1000,
+        src_line: (from + 1) * 70000,
+        src_col: 4294967295 - from,
+        source_id: k % 5,
+        name_id: name_of(k),
+    }
+}
+
+fn name_of(k: u32) -> u32 {
+    if k % 2 == 0 {
+        return token::NONE;
+    }
+    k % 100 * 40 % 1000
+}
+
+fn zeros() -> TokenChunk {
+    TokenChunk {
+        start: 0,
+        end: 0,
+        prev_dst_line: 0,
+        prev_dst_col: 0,
+        prev_src_line: 0,
+        prev_src_col: 0,
+        prev_name_id: 0,
+        prev_source_id: 0,
+    }
+}
+
+fn fill(table: &mut [u32; 144]) {
+    let mut i: usize = 0;
+    while i < 24 {
+        token::put_token(table, i, token_of(i as u32));
+        i += 1;
+    }
+}
+
+// The smaller of the next end and the last.
+fn next_end(end: u32, size: u32) -> u32 {
+    if end < 24 {
+        if size < 24 - end {
+            return end + size;
+        }
+    }
+    24
+}
+
+// Writes one chunk after what stands in `out` already; where that ends then.
+fn write_chunk(table: &[u32], chunk: TokenChunk, out: &mut [u8], at: usize) -> encode::Encoded {
+    if out.len() < at {
+        return encode::serialize_mappings(table, chunk, out);
+    }
+    encode::serialize_mappings(table, chunk, &mut out[at..])
+}
+
+// Writes the table in chunks of `size` tokens; how many bytes they come to.
+fn write_in_chunks(table: &[u32], size: u32, out: &mut [u8]) -> usize {
+    let mut c = zeros();
+    let mut at: usize = 0;
+    let mut calls: usize = 0;
+    while calls < 25 {
+        c.end = next_end(c.start, size);
+        let r = write_chunk(table, c, out, at);
+        if r.bytes <= 4096 {
+            if at <= 4096 {
+                at += r.bytes;
+            }
+        }
+        let next = r.next;
+        c = next;
+        calls += 1;
+    }
+    at
+}
+
+fn same(a: &[u32; 144], b: &[u32; 144]) -> bool {
+    let mut i: usize = 0;
+    while i < 144 {
+        if a[i] != b[i] {
+            return false;
+        }
+        i += 1;
+    }
+    true
+}
+
+fn print_yes(yes: bool) {
+    if yes {
+        io::write_all(1, b" same");
+    } else {
+        io::write_all(1, b" DIFFERENT");
+    }
+}
+
+fn read_back(text: &[u8], table: &[u32; 144], checked: bool) -> bool {
+    let mut back = [7u32; 144];
+    if checked {
+        decode::decode_checked(text, 5, 1000, &mut back);
+    } else {
+        decode::decode_lenient(text, 5, 1000, &mut back);
+    }
+    same(&back, table)
+}
+
+// The first n bytes, decoded in both modes.
+fn print_both(out: &[u8], n: usize, table: &[u32; 144]) {
+    if n <= out.len() {
+        print_yes(read_back(&out[..n], table, false));
+        print_yes(read_back(&out[..n], table, true));
+    }
+}
+
+fn print_run(size: u32, table: &[u32; 144], whole: usize, out: &mut [u8]) {
+    let n = write_in_chunks(table, size, out);
+    io::print_decimal(1, size as u64);
+    print_yes(n == whole);
+    print_both(out, n, table);
+    io::write_all(1, b"\n");
+}
+
+fn print_sizes(table: &[u32; 144], whole: usize, out: &mut [u8]) {
+    let mut size: u32 = 0;
+    while size < 24 {
+        size += 1;
+        print_run(size, table, whole, out);
+    }
+}
+
+fn run_all(table: &[u32; 144], out: &mut [u8]) {
+    io::write_all(1, b"premises");
+    print_yes(premises::meets_premises(table, 5, 1000));
+    io::write_all(1, b"\nbytes ");
+    let whole = write_in_chunks(table, 24, out);
+    io::print_decimal(1, whole as u64);
+    io::write_all(1, b"\n");
+    print_sizes(table, whole, out);
+}
+
+fn main() {
+    let mut table = [0u32; 144];
+    let mut out = [0u8; 4096];
+    fill(&mut table);
+    run_all(&table, &mut out);
+}

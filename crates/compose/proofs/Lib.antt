@@ -1,0 +1,7 @@
+pub mod Laws
+pub mod Made
+pub mod Step
+pub mod Tests
+pub mod Turn
+pub mod Unique
+pub mod Whole

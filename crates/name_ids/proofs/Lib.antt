@@ -1,0 +1,4 @@
+pub mod Find
+pub mod Grow
+pub mod Holes
+pub mod Known

@@ -1,0 +1,5 @@
+pub mod Bytes
+pub mod Ends
+pub mod Ids
+pub mod Places
+pub mod Unique

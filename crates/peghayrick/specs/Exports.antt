@@ -1,5 +1,6 @@
 -- What the exported entries answer: the answers of the entries behind them, a code as its number and the number with it. Assumes nothing.
 use mathlib.Core.Path.{_≡_}
+use mathlib.Core.Bool.{Bool, true, false}
 use mathlib.Core.List.{List}
 use Prim.Native.Nat.{ℕ}
 use Rattle.code.specs.Code.{codeOf, numberOf}
@@ -15,6 +16,11 @@ use Rattle.records.specs.Records.{answerOf}
 use Rattle.records.specs.declared.Answer.{Answer}
 use Rattle.lookup.specs.Lookup.{Looks, foundCode, foundNumber}
 use Rattle.lookup.specs.declared.Found.{Found}
+use Rattle.names.specs.declared.NamePlace.{NamePlace}
+use Rattle.compose.specs.Compose.{Maps, Composes}
+use Rattle.compose.specs.declared.Composed.{Composed}
+use Rattle.peghayrick.specs.declared.ComposedOut.{ComposedOut}
+use Rattle.peghayrick.specs.declared.NameOut.{NameOut}
 use Rattle.peghayrick.specs.declared.DecodedOut.{DecodedOut}
 use Rattle.peghayrick.specs.declared.EncodedOut.{EncodedOut}
 
@@ -43,3 +49,19 @@ pub record LooksOut (table : List ℕ) (line col : ℕ) (r : Answer) : Type 0 wh
   pub inner : Found
   pub looks : Looks table line col inner
   pub says : r ≡ record { code = foundCode inner; number = foundNumber inner }
+
+abbrev pub composedOut : Composed → ComposedOut
+composedOut m = record { code = codeOf (m .code); number = numberOf (m .code); added = m .added }
+
+pub record ComposesOut (m : Maps) (result added : List ℕ) (r : ComposedOut) (result′ added′ : List ℕ) : Type 0 where
+  pub inner : Composed
+  pub composes : Composes m result added inner result′ added′
+  pub says : r ≡ composedOut inner
+
+-- 1 for yes
+abbrev pub flag : Bool → ℕ
+flag true = 1
+flag false = 0
+
+abbrev pub nameOut : NamePlace → NameOut
+nameOut p = record { found = flag (p .found); outer = flag (p .outer); start = p .start; end = p .end }

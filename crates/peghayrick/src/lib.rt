@@ -1,14 +1,18 @@
 // Every public entry, exported under its C name. Each answers what the entry behind it answers, a code as its two numbers.
 use code::Code;
+use compose::Composed;
 use decode::Decoded;
 use encode::Encoded;
+use names::NamePlace;
 use records::Answer;
 use token::Token;
 use token::TokenChunk;
 ghost use mathlib.Core.Path.{_≡_};
 ghost use Rattle.value.specs.declared.Mode.{Mode};
+ghost use Rattle.names.specs.Names.{placeOf};
+ghost use Rattle.compose.specs.Steps.{mapsOf};
 ghost use Rattle.records.specs.Records.{TranslatesRecords, answerOf};
-ghost use Rattle.peghayrick.specs.Exports.{decodedOut, DecodesOut, encodedOut, EncodesOut, TranslatesOut, LooksOut};
+ghost use Rattle.peghayrick.specs.Exports.{decodedOut, DecodesOut, encodedOut, EncodesOut, TranslatesOut, LooksOut, composedOut, ComposesOut, flag, nameOut};
 
 // A decode's code and number, how many tokens it wrote, and the offset.
 #[repr(C)]
@@ -26,6 +30,23 @@ pub struct EncodedOut {
     pub number: u64,
     pub bytes: usize,
     pub next: TokenChunk,
+}
+
+// A composition's code and number, and how many outer names were added.
+#[repr(C)]
+pub struct ComposedOut {
+    pub code: u64,
+    pub number: u64,
+    pub added: usize,
+}
+
+// Where a name stands: found 0 and zeros, or found 1 and a part of the inner text (outer 0) or the outer one (outer 1).
+#[repr(C)]
+pub struct NameOut {
+    pub found: u64,
+    pub outer: u64,
+    pub start: usize,
+    pub end: usize,
 }
 
 fn decoded_out(d: Decoded) -> DecodedOut
@@ -50,6 +71,34 @@ fn encoded_out(e: Encoded) -> EncodedOut
         number: code::number_of(c),
         bytes: e.bytes,
         next,
+    }
+}
+
+fn composed_out(m: Composed) -> ComposedOut
+    ensures { λ r. ⌜ r ≡ composedOut m ⌝ }
+{
+    let c = m.code;
+    ComposedOut {
+        code: code::code_of(c),
+        number: code::number_of(c),
+        added: m.added,
+    }
+}
+
+fn flag_of(yes: bool) -> u64
+    ensures { λ r. ⌜ r ≡ flag yes ⌝ }
+{
+    if yes { 1 } else { 0 }
+}
+
+fn name_out(p: NamePlace) -> NameOut
+    ensures { λ r. ⌜ r ≡ nameOut p ⌝ }
+{
+    NameOut {
+        found: flag_of(p.found),
+        outer: flag_of(p.outer),
+        start: p.start,
+        end: p.end,
     }
 }
 
@@ -135,4 +184,45 @@ pub extern "C" fn pgk_lookup(table: &[u32], line: u32, col: u32) -> Answer
         code: lookup::found_code(f),
         number: lookup::found_number(f),
     }
+}
+
+#[no_mangle]
+pub extern "C" fn pgk_compose(
+    outer: &[u32],
+    outer_sources: u32,
+    outer_names: &[u8],
+    outer_ends: &[usize],
+    inner: &[u32],
+    inner_names: &[u8],
+    inner_ends: &[usize],
+    result: &mut [u32],
+    added: &mut [u32],
+) -> ComposedOut
+    ensures { λ r. ⌜ ComposesOut (mapsOf (now (outer .entry)) «outer_sources» (now («outer_names» .entry)) (now («outer_ends» .entry)) (now (inner .entry)) (now («inner_names» .entry)) (now («inner_ends» .entry))) (now (result .entry)) (now (added .entry)) r (now (result .exit)) (now (added .exit)) ⌝ }
+{
+    composed_out(compose::compose(
+        outer,
+        outer_sources,
+        outer_names,
+        outer_ends,
+        inner,
+        inner_names,
+        inner_ends,
+        result,
+        added,
+    ))
+}
+
+#[no_mangle]
+pub extern "C" fn pgk_name_of(
+    inner_names: &[u8],
+    inner_ends: &[usize],
+    outer_names: &[u8],
+    outer_ends: &[usize],
+    added: &[u32],
+    id: u32,
+) -> NameOut
+    ensures { λ r. ⌜ r ≡ nameOut (placeOf (record { text = now («inner_names» .entry); ends = now («inner_ends» .entry) }) (record { text = now («outer_names» .entry); ends = now («outer_ends» .entry) }) (now (added .entry)) id) ⌝ }
+{
+    name_out(names::name_place(inner_names, inner_ends, outer_names, outer_ends, added, id))
 }

@@ -1,0 +1,4 @@
+// One byte more than dumpmap takes.
+fn main() {
+    dump::dump_stdin();
+}

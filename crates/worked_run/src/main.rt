@@ -1,0 +1,63 @@
+// Decodes document 01's worked texts in both modes: for each mode a line with the code, the number with it, how many tokens
+// were written and the offset, and then the tokens.
+use decode::Decoded;
+ghost use Prim.Native.Nat.{_≤_};
+ghost use lib.ListN.{length};
+ghost use Rattle.token.specs.Table.{places};
+
+// No answer has more tokens.
+const PLACES: usize = 2;
+
+// What a decode in a mode gave.
+fn print_decoded(mode: &[u8], d: Decoded, table: &[u32])
+    requires { ⌜ d .tokens ≤ places (length (now table)) ⌝ }
+{
+    let code = d.code;
+    io::write_all(1, mode);
+    dump::print_number(code::code_of(code), b" ");
+    dump::print_number(code::number_of(code), b" ");
+    dump::print_number(d.tokens as u64, b" ");
+    dump::print_number(d.offset as u64, b"\n");
+    dump::print_tokens(table, d.tokens);
+}
+
+fn lenient(text: &[u8], sources: u32, names: u32) {
+    let mut table = [0u32; PLACES * token::WIDTH];
+    let d = decode::decode_lenient(text, sources, names, &mut table);
+    print_decoded(b"lenient ", d, &table);
+}
+
+fn checked(text: &[u8], sources: u32, names: u32) {
+    let mut table = [0u32; PLACES * token::WIDTH];
+    let d = decode::decode_checked(text, sources, names, &mut table);
+    print_decoded(b"checked ", d, &table);
+}
+
+// A text with its counts, in both modes.
+fn row(text: &[u8], sources: u32, names: u32) {
+    io::write_all(1, b"\"");
+    io::write_all(1, text);
+    io::write_all(1, b"\" ");
+    dump::print_number(sources as u64, b" ");
+    dump::print_number(names as u64, b"\n");
+    lenient(text, sources, names);
+    checked(text, sources, names);
+}
+
+fn main() {
+    row(b"", 0, 0);
+    row(b"A", 0, 0);
+    row(b"AAAA", 0, 0);
+    row(b"ACAA", 1, 0);
+    row(b"AAAAD", 1, 1);
+    row(b"DAA", 1, 0);
+    row(b"AAA", 1, 0);
+    row(b"AAAAAA", 1, 1);
+    row(b"+/////H", 0, 0);
+    row(b"ggggggI", 0, 0);
+    row(b"ggggggggggggA", 0, 0);
+    row(b"gggggggggggggA", 0, 0);
+    row(b"!", 0, 0);
+    row(b"!A", 0, 0);
+    row(b"AAEG;C", 1, 0);
+}

@@ -1,0 +1,1 @@
+pub mod reach { pub fn serialize_mappings(tokens: &[crate::Token], chunk: &crate::TokenChunk, out: &mut String) { super::serialize_mappings(tokens, chunk, out) } pub fn vlq_value(a: u32, b: u32) -> u64 { super::vlq_value(a, b) } }

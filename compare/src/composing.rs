@@ -1,0 +1,350 @@
+//! Composing. Ours is held to the model; the crate is held to the model with the crate's own lookup in it, and every
+//! difference that then remains between the two is one of the lookup's.
+
+use std::collections::HashMap;
+
+use crate::cases::{Case, Class, Random, Tally, met_code};
+use crate::looking::{self, LINES};
+use crate::model::{self, Inner, NONE, NameOf, Names, Outer, Token, table_of, tokens_of};
+use crate::ours::{Lent, composer};
+use crate::theirs::{BUILDS, Build};
+
+pub const TWO_SOURCES: Class = "compose: two outer sources; the crate panics";
+pub const PANICS: Class = "compose: lines of the inner list fall; the crate panics";
+pub const LOOKUP: Class = "compose: differs by the lookup";
+
+#[derive(Clone)]
+pub struct Pair {
+    pub outer: Vec<u32>,
+    pub sources: u32,
+    pub outer_names: Names,
+    pub inner: Vec<u32>,
+    pub inner_names: Names,
+    /// Numbers lent for the result, and for the added list.
+    pub result: usize,
+    pub added: usize,
+}
+
+fn names_shown(names: &Names) -> String {
+    if !names.sound() {
+        return format!("{names:?}");
+    }
+    format!("{:?}", (0..names.count()).map(|i| names.name(i).escape_ascii().to_string()).collect::<Vec<_>>())
+}
+
+impl std::fmt::Debug for Pair {
+    fn fmt(&self, f: &mut std::fmt::Formatter<'_>) -> std::fmt::Result {
+        let table = |t: &[u32]| t.chunks(6).map(|t| format!("{t:?}")).collect::<Vec<_>>().join(" ");
+        write!(
+            f,
+            "outer {} of {} sources and names {}, inner {} and names {}, room {} and {}",
+            table(&self.outer),
+            self.sources,
+            names_shown(&self.outer_names),
+            table(&self.inner),
+            names_shown(&self.inner_names),
+            self.result,
+            self.added
+        )
+    }
+}
+
+impl Pair {
+    fn outer(&self) -> Outer<'_> {
+        Outer { table: &self.outer, sources: self.sources, names: &self.outer_names }
+    }
+
+    fn inner(&self) -> Inner<'_> {
+        Inner { table: &self.inner, names: &self.inner_names }
+    }
+
+    fn ours_agrees(&self) -> Result<(), String> {
+        if !composer::HERE {
+            return Ok(());
+        }
+        let m = model::compose(&self.outer(), &self.inner(), self.result, self.added);
+        let mut result = Lent::new(self.result);
+        let mut added = Lent::new(self.added);
+        let got = composer::compose(
+            &self.outer,
+            self.sources,
+            &self.outer_names,
+            &self.inner,
+            &self.inner_names,
+            &mut result,
+            &mut added,
+        );
+        let want = (m.answer, m.added.len() as u64);
+        if got != want {
+            return Err(format!("ours {got:?}, the model {want:?}"));
+        }
+        if !result.is(&table_of(&m.tokens)) {
+            return Err(format!("ours has {:?}, the model {:?}", tokens_of(result.numbers()), m.tokens));
+        }
+        if !added.is(&m.added) {
+            return Err(format!("ours adds {:?}, the model {:?}", added.numbers(), m.added));
+        }
+        met_code("compose", m.answer.code);
+        // The added list as it was lent: its places past the count hold the pattern.
+        for list in [&m.added[..], added.numbers(), &[]] {
+            self.names_agree(list)?;
+        }
+        Ok(())
+    }
+
+    fn names_agree(&self, added: &[u32]) -> Result<(), String> {
+        let count = (self.inner_names.count() + added.len()) as u32;
+        for id in (0..count + 2).chain([0x7fff_ffff, 0x8000_0000, NONE - 1, NONE]) {
+            let got = composer::name_of(&self.inner_names, &self.outer_names, added, id);
+            let m = model::name_of(&self.inner_names, &self.outer_names, added, id);
+            let fits = match m {
+                None => got.found == 0 && got.start == got.end,
+                Some((outer, start, end)) => {
+                    got == NameOf { found: 1, outer: u64::from(outer), start: start as u64, end: end as u64 }
+                }
+            };
+            if !fits {
+                return Err(format!("the name of {id}: ours {got:?}, the model {m:?}"));
+            }
+        }
+        Ok(())
+    }
+
+    /// The crate, held to the model with the crate's lookup in it. What it gives.
+    fn theirs(&self, build: &Build) -> Result<Option<(Vec<Token>, Vec<Vec<u8>>)>, String> {
+        let outer = tokens_of(&self.outer);
+        let inner = tokens_of(&self.inner);
+        let theirs = (build.compose)(&outer, self.sources as usize, &self.outer_names, &inner, &self.inner_names);
+        if self.sources > 1 {
+            return if theirs.is_none() { Ok(None) } else { Err(format!("the {} crate takes two sources", build.name)) };
+        }
+        let asked: Vec<(u32, u32)> = outer.iter().map(|t| (t.src_line, t.src_col)).collect();
+        let want = (build.look)(&inner, &asked).map(|found| {
+            let known: HashMap<(u32, u32), Option<Token>> = asked.iter().copied().zip(found.iter().map(|f| f.0)).collect();
+            let (tokens, added) = model::composed(&self.outer(), &self.inner(), &|line, col| known[&(line, col)]);
+            let inner_names = (0..self.inner_names.count()).map(|i| self.inner_names.name(i).to_vec());
+            let names = inner_names.chain(added.iter().map(|&a| self.outer_names.name(a as usize).to_vec()));
+            (tokens, names.collect())
+        });
+        if theirs != want {
+            return Err(format!("the {} crate has {theirs:?}, the model with its lookup {want:?}", build.name));
+        }
+        Ok(theirs)
+    }
+
+    fn crate_takes(&self) -> bool {
+        let utf8 = |n: &Names| n.sound() && (0..n.count()).all(|i| std::str::from_utf8(n.name(i)).is_ok());
+        self.outer.len() % 6 == 0
+            && self.inner.len() % 6 == 0
+            && utf8(&self.outer_names)
+            && utf8(&self.inner_names)
+            && tokens_of(&self.inner).iter().all(|t| t.dst_line <= LINES)
+    }
+}
+
+impl Case for Pair {
+    fn check(&self) -> Result<Vec<Class>, String> {
+        self.ours_agrees()?;
+        if !self.crate_takes() {
+            return Ok(vec![]);
+        }
+        let mut classes = Vec::new();
+        for build in BUILDS {
+            let theirs = self.theirs(&build)?;
+            let inner = tokens_of(&self.inner);
+            let look = |line, col| model::lookup(&inner, line, col).map(|i| inner[i]);
+            let (tokens, _) = model::composed(&self.outer(), &self.inner(), &look);
+            let explained = tokens_of(&self.outer)
+                .iter()
+                .any(|t| t.source_id != NONE && looking::class_of(&inner, t.src_line, t.src_col).is_some());
+            match theirs {
+                None if self.sources > 1 => classes.push(TWO_SOURCES),
+                None => classes.push(PANICS),
+                Some((t, _)) if t == tokens => {}
+                Some(_) if explained => classes.push(LOOKUP),
+                Some((t, _)) => return Err(format!("the {} crate has {t:?}, ours {tokens:?}", build.name)),
+            }
+        }
+        classes.dedup();
+        Ok(classes)
+    }
+
+    fn smaller(&self) -> Vec<Pair> {
+        let mut list = Vec::new();
+        for i in 0..self.outer.len() / 6 {
+            let mut p = self.clone();
+            p.outer.drain(6 * i..6 * i + 6);
+            list.push(p);
+        }
+        for i in 0..self.inner.len() / 6 {
+            let mut p = self.clone();
+            p.inner.drain(6 * i..6 * i + 6);
+            list.push(p);
+        }
+        let with = |names: &Names, i: usize| {
+            let kept: Vec<&[u8]> = (0..names.count()).filter(|&k| k != i).map(|k| names.name(k)).collect();
+            names_of(&kept, b"")
+        };
+        if self.outer_names.sound() && self.inner_names.sound() {
+            for i in 0..self.outer_names.count() {
+                list.push(Pair { outer_names: with(&self.outer_names, i), ..self.clone() });
+            }
+            for i in 0..self.inner_names.count() {
+                list.push(Pair { inner_names: with(&self.inner_names, i), ..self.clone() });
+            }
+        }
+        for i in 0..self.outer.len() {
+            let mut p = self.clone();
+            p.outer[i] = 0;
+            list.push(p);
+        }
+        for i in 0..self.inner.len() {
+            let mut p = self.clone();
+            p.inner[i] = 0;
+            list.push(p);
+        }
+        list
+    }
+
+    fn size(&self) -> usize {
+        let numbers = self.outer.iter().chain(&self.inner).filter(|&&n| n != 0).count();
+        let names = self.outer_names.count() + self.inner_names.count();
+        100 * (self.outer.len() + self.inner.len()) + 30 * names + numbers + self.sources.min(9) as usize
+    }
+}
+
+/// A sound list of these names; past its last end stands what is handed in.
+pub fn names_of(names: &[&[u8]], past: &[u8]) -> Names {
+    let mut list = Names::default();
+    for name in names {
+        list.text.extend(*name);
+        list.ends.push(list.text.len());
+    }
+    list.text.extend(past);
+    list
+}
+
+const POOL: [&[u8]; 8] = [b"", b"a", b"b", b"ab", b"ba", "é".as_bytes(), b"abc", b"aa"];
+
+fn random_names(random: &mut Random, most: usize) -> Names {
+    let list: Vec<&[u8]> = (0..random.below(most + 1)).map(|_| random.pick(&POOL)).collect();
+    let mut names = names_of(&list, random.pick(&[&b""[..], b"", b"rest"]));
+    if random.one_in(30) && !names.ends.is_empty() {
+        // An end out of order, or past the text.
+        let i = random.below(names.ends.len());
+        names.ends[i] = random.pick(&[0, 1, names.text.len(), names.text.len() + 1, 1 << 40, usize::MAX]);
+    }
+    names
+}
+
+fn random_id(random: &mut Random, count: usize) -> u32 {
+    match random.below(8) {
+        0 | 1 => NONE,
+        2 => random.pick(&[count as u32, count as u32 + 1, 0x8000_0000, NONE - 1]),
+        _ => random.below(count.max(1)) as u32,
+    }
+}
+
+fn pairs(random: &mut Random, cases: usize, most: usize, go: &mut dyn FnMut(Pair) -> bool) {
+    for _ in 0..cases {
+        let lines = random.pick(&[1, 2, 5]);
+        let wide = random.pick(&[2, 4, 30]);
+        let outer_names = random_names(random, 6);
+        let inner_names = random_names(random, 5);
+        let mut inner: Vec<Token> = (0..random.below(most + 1))
+            .map(|i| Token {
+                dst_line: random.below(lines) as u32,
+                dst_col: random.below(wide) as u32,
+                src_line: i as u32,
+                src_col: random.below(3) as u32,
+                source_id: if random.one_in(6) { NONE } else { random.below(3) as u32 },
+                name_id: random_id(random, inner_names.count()),
+            })
+            .collect();
+        if random.one_in(12) {
+            for t in &mut inner {
+                t.dst_line = random.number();
+            }
+        }
+        match random.below(5) {
+            0 => {}
+            1 => inner.sort_by_key(|t| t.dst_line),
+            _ => inner.sort_by_key(|t| (t.dst_line, t.dst_col)),
+        }
+        let outer: Vec<Token> = (0..random.below(most + 1))
+            .map(|i| Token {
+                dst_line: i as u32 / 3,
+                dst_col: random.number(),
+                src_line: random.below(lines + 1) as u32,
+                src_col: random.below(wide + 1) as u32,
+                source_id: if random.one_in(6) { NONE } else { random.pick(&[0, 0, 0, 1, 9]) },
+                name_id: random_id(random, outer_names.count()),
+            })
+            .collect();
+        let mut pair = Pair {
+            result: 6 * outer.len() + random.below(8),
+            added: outer_names.count() + random.below(3),
+            outer: table_of(&outer),
+            sources: random.pick(&[1, 1, 1, 1, 1, 1, 0]),
+            outer_names,
+            inner: table_of(&inner),
+            inner_names,
+        };
+        match random.below(30) {
+            0 => pair.sources = random.pick(&[2, 3]),
+            1 => pair.outer.truncate(random.below(pair.outer.len() + 1)),
+            2 => pair.inner.truncate(random.below(pair.inner.len() + 1)),
+            3 => pair.result = random.below(pair.result + 1),
+            4 => pair.added = random.below(pair.added + 1),
+            5 => {
+                pair.result = random.below(pair.result + 1);
+                pair.added = random.below(pair.added + 1);
+            }
+            _ => {}
+        }
+        if !go(pair) {
+            return;
+        }
+    }
+}
+
+/// One outer token over every list of up to three inner tokens on lines 0 and 1 and columns 0 to 2.
+fn small(go: &mut dyn FnMut(Pair) -> bool) {
+    let kinds = 2 * 3 * 3;
+    let outer_names = names_of(&[b"a", b"b"], b"");
+    let inner_names = names_of(&[b"b"], b"");
+    for count in 0..=3usize {
+        for code in 0..usize::pow(kinds, count as u32) {
+            let inner: Vec<Token> = (0..count)
+                .map(|i| {
+                    let k = (code / usize::pow(kinds, i as u32) % kinds) as u32;
+                    let (source_id, name_id) = [(0, NONE), (0, 0), (NONE, NONE)][k as usize / 6];
+                    Token { dst_line: k % 2, dst_col: k / 2 % 3, src_line: i as u32, src_col: 1, source_id, name_id }
+                })
+                .collect();
+            for (src_line, src_col) in [(0, 1), (1, 0), (1, 2), (2, 0)] {
+                for name_id in [0, 1, 2, NONE] {
+                    let t = Token { dst_line: 0, dst_col: 9, src_line, src_col, source_id: 0, name_id };
+                    let pair = Pair {
+                        outer: table_of(&[t]),
+                        sources: 1,
+                        outer_names: outer_names.clone(),
+                        inner: table_of(&inner),
+                        inner_names: inner_names.clone(),
+                        result: 6,
+                        added: 2,
+                    };
+                    if !go(pair) {
+                        return;
+                    }
+                }
+            }
+        }
+    }
+}
+
+pub fn run(tally: &mut Tally, seed: u64, scale: usize) {
+    tally.group("compose: every small inner list", small);
+    tally.group("compose: short lists", |go| pairs(&mut Random::new(seed, "pairs"), 200_000 * scale, 6, go));
+    tally.group("compose: long lists", |go| pairs(&mut Random::new(seed, "long pairs"), 1_000 * scale, 200, go));
+}

@@ -1,0 +1,93 @@
+//! Lengths at the limits of document 01. The memory is lent without being there: pages of zeros, made when touched.
+
+use std::time::Instant;
+
+use crate::cases::Tally;
+use crate::model::{self, Answer, MOST, NONE, TokenChunk, answer};
+use crate::ours;
+
+unsafe extern "C" {
+    fn mmap(at: *mut u8, len: usize, protection: i32, flags: i32, file: i32, offset: i64) -> *mut u8;
+}
+
+/// So many bytes of zeros (readable, writable, private, anonymous, not reserved), or nothing where the system has no room.
+fn zeros(bytes: usize) -> Option<*mut u8> {
+    let at = unsafe { mmap(std::ptr::null_mut(), bytes, 3, 0x4022, -1, 0) };
+    if at as isize == -1 { None } else { Some(at) }
+}
+
+fn expect<T: PartialEq + std::fmt::Debug>(what: &str, got: T, want: T) -> Result<(), String> {
+    if got == want { Ok(()) } else { Err(format!("{what}: ours {got:?}, and {want:?} was due")) }
+}
+
+const BAD: Answer = Answer { code: model::BAD_TABLE, number: 0 };
+
+/// One token more than a table may hold.
+fn tables(at: *mut u32) -> Result<(), String> {
+    let over = 6 * (MOST + 1);
+    unsafe {
+        expect("lookup", ours::raw::lookup(at, over, 0, 0), BAD)?;
+        expect("translate", ours::raw::translate(at, over, 1, 1, 1), BAD)?;
+        expect("translate, records", ours::raw::translate_tokens(at, MOST + 1, 1, 1, 1), BAD)?;
+        // A table to write in has no such limit.
+        expect("decode", ours::raw::decode(b"A", at, over), (answer(0, 0), 1, 1))?;
+        let first: Vec<u32> = (0..7).map(|i| *at.add(i)).collect();
+        expect("the first numbers", first, vec![0, 0, 0, 0, NONE, NONE, 0])
+    }
+}
+
+#[cfg(encode)]
+fn chunks(at: *mut u32) -> Result<(), String> {
+    let most = MOST as u32;
+    let chunk = TokenChunk { start: most, end: most, ..TokenChunk::default() };
+    let last = TokenChunk { start: most - 1, ..chunk };
+    let mut out = ours::LentBytes::new(8);
+    unsafe {
+        expect("write, too many", ours::raw::encode(at, 6 * (MOST + 1), chunk, &mut out), (BAD, 0, chunk))?;
+        expect("write, nothing of the most", ours::raw::encode(at, 6 * MOST, chunk, &mut out), (answer(0, 0), 0, chunk))?;
+        expect("write, the last of the most", ours::raw::encode(at, 6 * MOST, last, &mut out), (answer(0, 0), 6, chunk))?;
+    }
+    expect("the bytes", out.is(b",AAAAA"), true)
+}
+
+#[cfg(not(encode))]
+fn chunks(_: *mut u32) -> Result<(), String> {
+    Ok(())
+}
+
+/// 2^31 ends are one too many; one less is a sound list.
+#[cfg(compose)]
+fn names(at: *mut u32) -> Result<(), String> {
+    let ends = at.cast::<usize>();
+    let most = model::MOST_NAMES;
+    unsafe {
+        expect("names, too many", ours::raw::name_found(ends, most + 1, 0), 0)?;
+        expect("names, the most", ours::raw::name_found(ends, most, most as u32 - 1), 1)?;
+        expect("names, past the most", ours::raw::name_found(ends, most, most as u32), 0)?;
+        let over = 6 * (MOST + 1);
+        expect("compose, outer", ours::raw::compose_code(at, over, at, 6, ends, 0), BAD)?;
+        expect("compose, inner", ours::raw::compose_code(at, 6, at, over, ends, 0), BAD)?;
+        let bad = answer(model::BAD_NAMES, 0);
+        expect("compose, names", ours::raw::compose_code(at, 6, at, 6, ends, most + 1), bad)
+    }
+}
+
+#[cfg(not(compose))]
+fn names(_: *mut u32) -> Result<(), String> {
+    Ok(())
+}
+
+pub fn run(tally: &mut Tally) {
+    let begun = Instant::now();
+    // Two lists, since decoding writes in the first.
+    let result = match (zeros(24 * (MOST + 1)), zeros(24 * (MOST + 1))) {
+        (Some(first), Some(second)) => {
+            tables(first.cast()).and_then(|()| chunks(second.cast())).and_then(|()| names(second.cast()))
+        }
+        _ => {
+            println!("no room for lists at the limits: left out");
+            Ok(())
+        }
+    };
+    tally.single("limits: lengths", result, begun.elapsed().as_secs_f64());
+}

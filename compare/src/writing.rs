@@ -1,0 +1,424 @@
+//! Writing: bytes against the crate, end states by way of the next chunk, refusals and rooms against the model.
+
+use crate::cases::{Case, Class, EDGES, Random, Tally, met_code};
+use crate::decoding::random_tokens;
+use crate::model::{self, Encoded, NONE, Token, TokenChunk, table_of, tokens_of};
+use crate::ours::{LentBytes, writer};
+use crate::theirs::BUILDS;
+
+pub const LINE_BACK: Class = "write: a line goes back; debug panics, release wraps";
+pub const BAD_CHUNK: Class = "write: a bad chunk; the crate panics";
+
+/// Texts longer than this are measured and not made.
+const LONG: u64 = 1 << 16;
+
+#[derive(Clone, Debug)]
+pub struct Write {
+    pub table: Vec<u32>,
+    pub chunk: TokenChunk,
+}
+
+/// The library's answer for a room, all of it held to the model.
+fn ours_agrees(table: &[u32], chunk: TokenChunk, room: usize) -> Result<(), String> {
+    if !writer::HERE {
+        return Ok(());
+    }
+    let m = model::encode(table, chunk, room);
+    let mut out = LentBytes::new(room);
+    let (a, bytes, next) = writer::encode(table, chunk, &mut out);
+    let want = (m.answer, m.text.len() as u64, m.next);
+    if (a, bytes, next) != want {
+        return Err(format!("room {room}: ours {:?}, the model {want:?}", (a, bytes, next)));
+    }
+    if !out.is(&m.text) {
+        let wrote = out.bytes()[..m.text.len()].escape_ascii().to_string();
+        return Err(format!("room {room}: ours wrote {wrote:?} or more, the model {:?}", m.text.escape_ascii().to_string()));
+    }
+    met_code("write", a.code);
+    Ok(())
+}
+
+/// Semicolons that the crate writes: up to where a line goes back, and in all, differences wrapping.
+fn semicolons(tokens: &[Token], chunk: TokenChunk) -> (u64, u64) {
+    let mut line = chunk.prev_dst_line;
+    let mut before = None;
+    let mut sum = 0;
+    for t in &tokens[chunk.start as usize..chunk.end as usize] {
+        if t.dst_line < line {
+            before.get_or_insert(sum);
+        }
+        sum += u64::from(t.dst_line.wrapping_sub(line));
+        line = t.dst_line;
+    }
+    (before.unwrap_or(sum), sum)
+}
+
+impl Write {
+    /// The six previous numbers that stand after a chunk show in the bytes of tokens put behind it.
+    fn state_agrees(&self, m: &Encoded) -> Result<(), String> {
+        let mut tokens = tokens_of(&self.table);
+        tokens.truncate(self.chunk.end as usize);
+        let line = m.next.prev_dst_line;
+        let probe = Token { dst_line: line, dst_col: 3, src_line: 4, src_col: 5, source_id: 6, name_id: 7 };
+        tokens.push(probe);
+        tokens.push(Token { dst_line: line.saturating_add(1), ..probe });
+        let end = tokens.len() as u32;
+        for build in BUILDS {
+            let whole = (build.encode)(&tokens, TokenChunk { end, ..self.chunk });
+            let rest = (build.encode)(&tokens, TokenChunk { end, ..m.next });
+            let joined = rest.map(|r| [m.text.clone(), r].concat());
+            if whole.is_none() || joined != whole {
+                let shown = |t: &Option<Vec<u8>>| t.as_ref().map(|t| t.escape_ascii().to_string());
+                let (whole, joined) = (shown(&whole), shown(&joined));
+                return Err(format!("after the chunk the state is {:?}; whole {whole:?}, in two {joined:?}", m.next));
+            }
+        }
+        Ok(())
+    }
+}
+
+impl Case for Write {
+    fn check(&self) -> Result<Vec<Class>, String> {
+        let none = model::encode(&self.table, self.chunk, 0);
+        let need = match none.answer.code {
+            model::NO_ROOM => none.answer.number,
+            _ => 0,
+        };
+        ours_agrees(&self.table, self.chunk, 0)?;
+        let mut classes = Vec::new();
+        if need > LONG {
+            ours_agrees(&self.table, self.chunk, 5)?;
+            return Ok(classes);
+        }
+        let need = need as usize;
+        ours_agrees(&self.table, self.chunk, need)?;
+        ours_agrees(&self.table, self.chunk, need + 1 + need % 50)?;
+        if need > 0 {
+            ours_agrees(&self.table, self.chunk, need - 1)?;
+            // 36 bytes a token and one a line hold any text: a room on either side of that.
+            let tokens = (self.chunk.end - self.chunk.start) as usize;
+            let line = self.table[6 * self.chunk.end as usize - 6];
+            let most = 36 * tokens + (line - self.chunk.prev_dst_line) as usize;
+            ours_agrees(&self.table, self.chunk, most)?;
+            ours_agrees(&self.table, self.chunk, most.max(1) - 1)?;
+        }
+        if self.table.len() % 6 != 0 {
+            return Ok(classes);
+        }
+        let tokens = tokens_of(&self.table);
+        let m = model::encode(&self.table, self.chunk, need);
+        match m.answer.code {
+            model::DONE => {
+                for build in BUILDS {
+                    let theirs = (build.encode)(&tokens, self.chunk);
+                    if theirs.as_ref() != Some(&m.text) {
+                        let shown = theirs.map(|t| t.escape_ascii().to_string());
+                        let text = m.text.escape_ascii().to_string();
+                        return Err(format!("the {} crate writes {shown:?}, the model {text:?}", build.name));
+                    }
+                }
+                self.state_agrees(&m)?;
+            }
+            model::LINE_GOES_BACK => {
+                // The crate may write 2^32 - 1 semicolons; it is run where they are few.
+                let (before, all) = semicolons(&tokens, self.chunk);
+                let debug = if before <= LONG { (BUILDS[0].encode)(&tokens, self.chunk) } else { None };
+                let release = if all <= LONG { (BUILDS[1].encode)(&tokens, self.chunk) } else { Some(vec![]) };
+                if debug.is_some() || release.is_none() {
+                    return Err(format!("a line goes back: debug {debug:?}, release {release:?}"));
+                }
+                classes.push(LINE_BACK);
+            }
+            model::BAD_CHUNK => {
+                for build in BUILDS {
+                    if (build.encode)(&tokens, self.chunk).is_some() {
+                        return Err(format!("a bad chunk: the {} crate takes it", build.name));
+                    }
+                }
+                classes.push(BAD_CHUNK);
+            }
+            code => return Err(format!("the model says {code}")),
+        }
+        Ok(classes)
+    }
+
+    fn smaller(&self) -> Vec<Write> {
+        let mut list = Vec::new();
+        for i in 0..self.table.len() / 6 {
+            let mut w = self.clone();
+            w.table.drain(6 * i..6 * i + 6);
+            let c = &mut w.chunk;
+            c.start -= u32::from(i < c.start as usize);
+            c.end -= u32::from(i < c.end as usize);
+            list.push(w);
+        }
+        for i in 0..self.table.len() {
+            let mut w = self.clone();
+            w.table[i] = if i % 6 < 4 || w.table[i] < 9 { 0 } else { NONE };
+            list.push(w);
+        }
+        let c = self.chunk;
+        for chunk in [
+            TokenChunk { prev_dst_line: 0, ..c },
+            TokenChunk { prev_dst_col: 0, ..c },
+            TokenChunk { prev_src_line: 0, ..c },
+            TokenChunk { prev_src_col: 0, ..c },
+            TokenChunk { prev_name_id: 0, ..c },
+            TokenChunk { prev_source_id: 0, ..c },
+        ] {
+            list.push(Write { chunk, ..self.clone() });
+        }
+        list
+    }
+
+    fn size(&self) -> usize {
+        let c = self.chunk;
+        let previous = [c.prev_dst_line, c.prev_dst_col, c.prev_src_line, c.prev_src_col, c.prev_name_id, c.prev_source_id];
+        let cost = |n: &u32| if [0, NONE].contains(n) { 0 } else { 1 + (*n > 9) as usize };
+        let numbers = self.table.iter().chain(&previous).map(cost).sum::<usize>();
+        let (start, end) = (c.start.min(9) as usize, c.end.min(9) as usize);
+        100 * self.table.len() + 10 * numbers + start + end
+    }
+
+    fn show(&self) -> String {
+        let c = &self.chunk;
+        let tokens: Vec<String> = self.table.chunks(6).map(|t| format!("{t:?}")).collect();
+        format!(
+            "tokens {}, chunk {} {} after {} {} {} {} {} {}",
+            tokens.join(" "),
+            c.start,
+            c.end,
+            c.prev_dst_line,
+            c.prev_dst_col,
+            c.prev_src_line,
+            c.prev_src_col,
+            c.prev_name_id,
+            c.prev_source_id
+        )
+    }
+}
+
+/// A list written in pieces, each from the state that the one before it left.
+#[derive(Clone, Debug)]
+struct Cuts {
+    tokens: Vec<Token>,
+    ends: Vec<u32>,
+}
+
+impl Case for Cuts {
+    fn check(&self) -> Result<Vec<Class>, String> {
+        let table = table_of(&self.tokens);
+        let mut chunk = TokenChunk::default();
+        let mut text = Vec::new();
+        for &end in &self.ends {
+            chunk.end = end;
+            let m = model::encode(&table, chunk, LONG as usize);
+            Write { table: table.clone(), chunk }.check()?;
+            text.extend(&m.text);
+            if writer::HERE {
+                let mut out = LentBytes::new(m.text.len());
+                let (_, _, next) = writer::encode(&table, chunk, &mut out);
+                chunk = next;
+            } else {
+                chunk = m.next;
+            }
+        }
+        let whole = TokenChunk { end: self.tokens.len() as u32, ..TokenChunk::default() };
+        for build in BUILDS {
+            if (build.encode)(&self.tokens, whole).as_ref() != Some(&text) {
+                return Err(format!("in pieces it is {:?}", text.escape_ascii().to_string()));
+            }
+        }
+        Ok(vec![])
+    }
+
+    fn smaller(&self) -> Vec<Cuts> {
+        (0..self.tokens.len())
+            .map(|i| {
+                let mut c = self.clone();
+                c.tokens.remove(i);
+                c.ends.iter_mut().for_each(|e| *e -= u32::from((i as u32) < *e));
+                c
+            })
+            .collect()
+    }
+
+    fn size(&self) -> usize {
+        self.tokens.len() * 10 + self.ends.len()
+    }
+}
+
+/// Every way to cut a list of up to so many tokens, empty pieces too.
+fn every_cut(random: &mut Random, cases: usize, go: &mut dyn FnMut(Cuts) -> bool) {
+    for _ in 0..cases {
+        let mut tokens = random_tokens(random, 5);
+        if random.one_in(3) {
+            for t in &mut tokens {
+                t.dst_line = t.dst_line.min(3);
+                t.name_id = random.pick(&[NONE, 0, 1]);
+                t.source_id = random.pick(&[NONE, 0, 1]);
+            }
+        }
+        let n = tokens.len() as u32;
+        for mask in 0..1u32 << (n + 1) {
+            let mut ends: Vec<u32> = (0..=n).filter(|i| mask >> i & 1 == 1).collect();
+            // A piece twice in the same place is empty.
+            if random.one_in(4) && !ends.is_empty() {
+                let again = random.below(ends.len());
+                ends.insert(again, ends[again]);
+            }
+            ends.push(n);
+            if !go(Cuts { tokens: tokens.clone(), ends }) {
+                return;
+            }
+        }
+    }
+}
+
+/// One token with each number at each edge, after previous numbers at each edge.
+fn edges(random: &mut Random, cases: usize, go: &mut dyn FnMut(Write) -> bool) {
+    for _ in 0..cases {
+        let count = 1 + random.below(3);
+        let edge = |random: &mut Random| if random.one_in(2) { random.pick(&EDGES) } else { random.number() };
+        let mut line: u32 = random.pick(&[0, 0, 1, 5, 0xffff_fff0]);
+        let first = line;
+        let mut tokens = Vec::new();
+        for _ in 0..count {
+            line = line.saturating_add(random.pick(&[0, 0, 0, 1, 3]));
+            if random.one_in(16) {
+                line = random.pick(&EDGES);
+            }
+            tokens.push(Token {
+                dst_line: line,
+                dst_col: edge(random),
+                src_line: edge(random),
+                src_col: edge(random),
+                source_id: edge(random),
+                name_id: edge(random),
+            });
+        }
+        let chunk = TokenChunk {
+            start: random.below(2) as u32,
+            end: count as u32,
+            prev_dst_line: if random.one_in(12) { edge(random) } else { first },
+            prev_dst_col: edge(random),
+            prev_src_line: edge(random),
+            prev_src_col: edge(random),
+            prev_name_id: edge(random),
+            prev_source_id: edge(random),
+        };
+        if !go(Write { table: table_of(&tokens), chunk }) {
+            return;
+        }
+    }
+}
+
+fn chunks(random: &mut Random, cases: usize, most: usize, go: &mut dyn FnMut(Write) -> bool) {
+    for _ in 0..cases {
+        let mut tokens = random_tokens(random, most);
+        if random.one_in(8) && !tokens.is_empty() {
+            let i = random.below(tokens.len());
+            tokens[i].dst_line = random.below(4) as u32;
+        }
+        let n = tokens.len();
+        let mut start = random.below(n + 1);
+        let mut end = start + random.below(n - start + 1);
+        if random.one_in(3) {
+            start = 0;
+        }
+        if random.one_in(20) {
+            (start, end) = (random.below(n + 3), random.below(n + 3));
+        }
+        let mut chunk = TokenChunk { start: start as u32, end: end as u32, ..TokenChunk::default() };
+        if start > 0 && random.one_in(2) && start <= n {
+            let t = tokens[start - 1];
+            chunk.prev_dst_line = t.dst_line;
+            chunk.prev_dst_col = t.dst_col;
+            chunk.prev_src_line = t.src_line;
+            chunk.prev_src_col = t.src_col;
+            chunk.prev_name_id = random.number();
+            chunk.prev_source_id = random.number();
+        }
+        let mut table = table_of(&tokens);
+        if random.one_in(20) {
+            table.truncate(random.below(table.len() + 1));
+        }
+        if !go(Write { table, chunk }) {
+            return;
+        }
+    }
+}
+
+/// Lists of up to three tokens over few numbers: every choice of them.
+fn small_lists(go: &mut dyn FnMut(Write) -> bool) {
+    let kinds: Vec<Token> = (0..24)
+        .map(|k: u32| Token {
+            dst_line: k % 2,
+            dst_col: k / 2 % 2,
+            src_line: 1,
+            src_col: 16 * (k / 4 % 2),
+            source_id: [0, 1, NONE][k as usize / 8],
+            name_id: [0, NONE][k as usize / 4 % 2],
+        })
+        .collect();
+    for count in 0..=2usize {
+        for code in 0..kinds.len().pow(count as u32) {
+            let tokens: Vec<Token> = (0..count).map(|i| kinds[code / kinds.len().pow(i as u32) % kinds.len()]).collect();
+            for start in 0..=count as u32 + 1 {
+                for end in 0..=count as u32 + 1 {
+                    for line in 0..3 {
+                        let chunk = TokenChunk { start, end, prev_dst_line: line, ..TokenChunk::default() };
+                        if !go(Write { table: table_of(&tokens), chunk }) {
+                            return;
+                        }
+                    }
+                }
+            }
+        }
+    }
+}
+
+/// The crate's number for a difference, which its digits spell.
+#[derive(Clone, Debug)]
+struct Difference(u32, u32);
+
+impl Case for Difference {
+    fn check(&self) -> Result<Vec<Class>, String> {
+        let difference = i128::from(self.0) - i128::from(self.1);
+        let number = difference.unsigned_abs() * 2 + u128::from(difference < 0);
+        for build in BUILDS {
+            if u128::from((build.value)(self.0, self.1)) != number {
+                return Err(format!("the {} crate has {}", build.name, (build.value)(self.0, self.1)));
+            }
+        }
+        Ok(vec![])
+    }
+
+    fn smaller(&self) -> Vec<Difference> {
+        vec![]
+    }
+
+    fn size(&self) -> usize {
+        self.0 as usize + self.1 as usize
+    }
+}
+
+pub fn run(tally: &mut Tally, seed: u64, scale: usize) {
+    tally.group("write: differences", |go| {
+        for k in 0..32 {
+            for d in 0..3u32 {
+                for b in EDGES {
+                    let a = (1u32 << k).wrapping_add(d).wrapping_sub(1);
+                    go(Difference(a, b));
+                    go(Difference(b, a));
+                    go(Difference(b.wrapping_add(a), b));
+                }
+            }
+        }
+    });
+    tally.group("write: small lists, every chunk", small_lists);
+    tally.group("write: every cut of small lists", |go| every_cut(&mut Random::new(seed, "cuts"), 3_000 * scale, go));
+    tally.group("write: extreme numbers", |go| edges(&mut Random::new(seed, "extreme"), 150_000 * scale, go));
+    tally.group("write: short lists", |go| chunks(&mut Random::new(seed, "chunks"), 100_000 * scale, 8, go));
+    tally.group("write: long lists", |go| chunks(&mut Random::new(seed, "long chunks"), 500 * scale, 1500, go));
+}

@@ -11,17 +11,14 @@ use lib.Dec.{eqb, leb, ltb}
 use lib.ListN.{length}
 use borrow.Author.Count.{below-more}
 use borrow.Author.Tests.{eqb-true, eq-eqb, leb-true, le-leb, ltb-true, ltb-false}
-use Rattle.list.specs.Pick.{pick, both}
+use Rattle.list.proofs.Pick.{both-true}
+use Rattle.list.specs.Pick.{pick}
 use Rattle.token.specs.Table.{places, badTable, tokenAt}
 use Rattle.lookup.specs.Lookup.{Fits, NotAfter, Best, Looks, fits, later, bestOf, lookupOf, foundOf}
 use Rattle.lookup.specs.declared.Found.{Found}
 
 never : {A : Type 0} → true ≡ false → A
 never e = let z : _≡_ {A = ℕ} 0 1 = cc in absurd (omega arith)
-
-both-true : (a b : Bool) → both a b ≡ true → (a ≡ true) × (b ≡ true)
-both-true true b e = (refl, e)
-both-true false b e = never (sym e)
 
 -- what holds below n and at n holds below its successor
 upto : (P : ℕ → Type 0) (n : ℕ) → ((j : ℕ) → j < n → P j) → P n → (j : ℕ) → j < suc n → P j

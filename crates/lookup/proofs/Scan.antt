@@ -3,25 +3,18 @@ use mathlib.Core.Path.{_≡_, refl, sym, _∙_, ap}
 use mathlib.Core.Bool.{Bool, true, false}
 use mathlib.Core.List.{List}
 use mathlib.Core.Option.{Option, none, some}
-use Prim.Native.Nat.{ℕ, _+_, _%_, _≤_, _<_}
+use Prim.Native.Nat.{ℕ, _+_, _≤_, _<_}
 use native.Mathlib.Omega.{arith}
 use native.Mathlib.Numerals.{add-one}
 use lib.Dec.{eqb, leb, ltb}
 use lib.ListN.{length}
 use borrow.Author.Tests.{eq-eqb, ne-eqb, le-leb, lt-leb, ltb-true, ltb-false}
 use Rattle.list.specs.Pick.{pick, both}
-use Rattle.token.specs.Table.{width, places, badTable, tokenAt}
+use Rattle.token.proofs.Whole.{few}
+use Rattle.token.specs.Table.{places, badTable, tokenAt}
 use Rattle.token.specs.declared.Token.{Token}
 use Rattle.lookup.specs.Lookup.{fits, later, bestOf, lookupOf, foundOf}
 use Rattle.lookup.specs.declared.Found.{Found}
-
--- the tokens of a table can be counted in 32 bits
-few-if : (b : Bool) (k : ℕ) → pick b (ltb 4294967294 k) true ≡ false → k ≤ 4294967294
-few-if true k e = ltb-false 4294967294 k e
-few-if false k e = let z : _≡_ {A = ℕ} 0 1 = cc in omega arith
-
-pub few : (numbers : ℕ) → badTable numbers ≡ false → places numbers ≤ 4294967294
-few numbers e = few-if (eqb (numbers % width) 0) (places numbers) e
 
 -- the test of a token as the code makes it
 abbrev pub takesOf : Token → ℕ → ℕ → ℕ → Bool

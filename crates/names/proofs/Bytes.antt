@@ -10,7 +10,7 @@ use lib.ListN.{length, drop, getD}
 use lib.Seq.{drop-cons, drop-length}
 use borrow.Author.Tests.{eqb-true, eq-eqb, ne-eqb}
 use Rattle.names.specs.Names.{same}
-use Rattle.names.proofs.Ends.{both-true}
+use Rattle.list.proofs.Pick.{both-true}
 
 -- the test holds exactly of equal lists
 pub same-is : (a b : List ℕ) → same a b ≡ true → a ≡ b

@@ -1,6 +1,6 @@
 -- The ends of a name list: testing them, and the bounds of each name. Assumes nothing.
 use mathlib.Core.Path.{_≡_, refl, ap, _∙_}
-use mathlib.Core.Bool.{Bool, true, false}
+use mathlib.Core.Bool.{true, false}
 use mathlib.Core.List.{List, [], _∷_}
 use Prim.Native.Nat.{ℕ, zero, suc, _+_, _-_, _≤_, _<_}
 use native.Mathlib.Omega.{arith}
@@ -10,12 +10,9 @@ use lib.Dec.{leb}
 use lib.ListN.{length, take, drop, getD}
 use lib.Seq.{drop-cons, drop-length}
 use borrow.Author.Tests.{leb-true, le-leb, lt-leb}
+use Rattle.list.proofs.Pick.{both-true}
 use Rattle.list.specs.Pick.{both}
 use Rattle.names.specs.Names.{NameList, count, beginOf, rises, sound, nameAt}
-
-pub both-true : (a b : Bool) → both a b ≡ true → (a ≡ true) × (b ≡ true)
-both-true true b e = (refl, e)
-both-true false b e = let z : _≡_ {A = ℕ} 0 1 = cc in absurd (omega arith)
 
 -- ---- where a name begins
 pub begin-first : (ends : List ℕ) (k : ℕ) → k ≡ 0 → 0 ≡ beginOf ends k

@@ -8,7 +8,7 @@ use lib.ListN.{length, getD}
 use borrow.Author.Tests.{ltb-true, lt-ltb, le-ltb}
 use Rattle.list.specs.Pick.{pick, both}
 use Rattle.names.specs.Names.{NameList, count, beginOf, sound, nameAt, exists, placeOf, nameOf}
-use Rattle.names.proofs.Ends.{both-true}
+use Rattle.list.proofs.Pick.{both-true}
 
 module _ (inner outer : NameList) (added : List ℕ) (id : ℕ) where
   abbrev has : Bool

@@ -1,59 +1,28 @@
 -- The table form and the record form are one translation. Assumes nothing.
-use mathlib.Core.Path.{_≡_, refl, sym, _∙_, ap, ap₂}
+use mathlib.Core.Path.{_≡_, sym, _∙_, ap, ap₂}
 use mathlib.Core.Bool.{Bool, true, false}
-use mathlib.Core.List.{List, [], _∷_, _++_, append-nil}
-use Prim.Native.Nat.{ℕ, zero, suc, _+_, _*_, _%_, _≤_}
+use mathlib.Core.List.{List, [], append-nil}
+use Prim.Native.Nat.{ℕ, _*_}
 use native.Mathlib.Omega.{arith}
-use lib.Dec.{eqb, ltb}
-use lib.ListN.{length, take, drop, getD, drop-of-length-le}
-use lib.Seq.{drop-cons, take-length}
-use borrow.Author.Tests.{eqb-true, le-ltb}
+use lib.Dec.{eqb}
+use lib.ListN.{length, drop-of-length-le}
+use borrow.Author.Tests.{le-ltb}
 use Rattle.list.specs.Memory.{onto}
 use Rattle.list.specs.Pick.{pick}
 use Rattle.code.specs.Code.{codeOf}
 use Rattle.code.specs.declared.Code.{Code}
-use Rattle.token.specs.Table.{width, row, places, badTable, tokenAt, tokensFrom, tokensOf, flat, over}
+use Rattle.token.specs.Table.{width, places, badTable, tokensFrom, tokensOf, flat, over}
 use Rattle.token.specs.declared.Token.{Token}
 use Rattle.token.proofs.Laws.{length-flat, length-tokens, tokens-flat}
 use Rattle.translate.specs.Translate.{allMoved, translatesTo, Translates}
 use Rattle.translate.proofs.Moving.{length-moved}
-use Rattle.translate.proofs.Scan.{few}
+use Rattle.token.proofs.Whole.{few, flat-tokens, whole-tokens}
 use Rattle.records.specs.Records.{recordsTo, answerOf, TranslatesRecords}
 use Rattle.records.specs.declared.Answer.{Answer}
 
 -- ---- tokens of a table that has nothing past its last token, as numbers again
-whole-if : (b c : Bool) → pick b c true ≡ false → b ≡ true
-whole-if true c e = refl
-whole-if false c e = sym e
-
 whole : (xs : List ℕ) → badTable (length xs) ≡ false → length xs ≡ width * places (length xs)
-whole xs e =
-    omega (arith, eqb-true (length xs % width) 0 (whole-if (eqb (length xs % width) 0) (ltb 4294967294 (places (length xs))) e))
-
-six : (xs : List ℕ) (k : ℕ) → k + width ≤ length xs
-    → drop k xs ≡ getD xs k 0 ∷ getD xs (k + 1) 0 ∷ getD xs (k + 2) 0 ∷ getD xs (k + 3) 0 ∷ getD xs (k + 4) 0 ∷ getD xs (k + 5) 0 ∷ drop (k + 6) xs
-six xs k h =
-    let e₁ : k + 1 ≡ suc k = omega arith in
-    let e₂ : k + 2 ≡ suc (suc k) = omega arith in
-    let e₃ : k + 3 ≡ suc (suc (suc k)) = omega arith in
-    let e₄ : k + 4 ≡ suc (suc (suc (suc k))) = omega arith in
-    let e₅ : k + 5 ≡ suc (suc (suc (suc (suc k)))) = omega arith in
-    let e₆ : k + 6 ≡ suc (suc (suc (suc (suc (suc k))))) = omega arith in
-    rw (e₁, e₂, e₃, e₄, e₅, e₆, drop-cons xs k 0 (omega arith), drop-cons xs (suc k) 0 (omega arith), drop-cons xs (suc (suc k)) 0 (omega arith), drop-cons xs (suc (suc (suc k))) 0 (omega arith), drop-cons xs (suc (suc (suc (suc k)))) 0 (omega arith), drop-cons xs (suc (suc (suc (suc (suc k))))) 0 (omega arith))
-
-flat-part : (xs : List ℕ) (i n : ℕ) → width * (i + n) ≤ length xs → flat (tokensFrom xs i n) ≡ take (width * n) (drop (width * i) xs)
-unfolding flat tokensFrom tokenAt
-flat-part xs i zero h = refl
-flat-part xs i (suc n) h =
-    let e : width * suc n ≡ suc (suc (suc (suc (suc (suc (width * n)))))) = omega arith in
-    let f : width * (i + 1) ≡ width * i + 6 = omega arith in
-    rw (e, six xs (width * i) (omega arith))
-    (ap (λ (l : List ℕ). row (tokenAt xs i) ++ l) (flat-part xs (i + 1) n (omega arith) ∙ ap (λ (k : ℕ). take (width * n) (drop k xs)) f))
-
-pub flat-tokens : (xs : List ℕ) → badTable (length xs) ≡ false → flat (tokensOf xs) ≡ xs
-flat-tokens xs e =
-    let l = whole xs e in
-    flat-part xs 0 (places (length xs)) (omega arith) ∙ ap (λ (k : ℕ). take k xs) (sym l) ∙ take-length xs
+whole xs e = sym (whole-tokens xs e)
 
 over-all : (ts : List Token) (xs : List ℕ) → length xs ≡ width * length ts → over ts xs ≡ flat ts
 unfolding onto

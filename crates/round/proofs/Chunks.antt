@@ -1,7 +1,7 @@
 -- The bytes and the end state of a list in pieces, and of a table in successive calls. Assumes nothing.
-use mathlib.Core.Path.{_≡_, refl, sym, _∙_, ap, ap₂}
+use mathlib.Core.Path.{_≡_, refl, _∙_, ap, ap₂}
 use mathlib.Core.Bool.{Bool, true, false}
-use mathlib.Core.List.{List, [], _∷_, _++_, append-assoc}
+use mathlib.Core.List.{List, [], _∷_, _++_}
 use mathlib.Core.Option.{Option, none, some}
 use Prim.Native.Nat.{ℕ, suc, _+_, _-_, _≤_}
 use native.Mathlib.Omega.{arith}
@@ -18,25 +18,14 @@ use Rattle.token.specs.declared.Token.{Token}
 use Rattle.token.specs.declared.TokenChunk.{TokenChunk}
 use Rattle.token.proofs.Laws.{length-tokens, tokens-add, tokens-none}
 use Rattle.encode.specs.declared.Encoded.{Encoded}
+use Rattle.chunk.proofs.Lists.{written-append, endOf-append}
 use Rattle.chunk.specs.Chunk.{baseOf, fieldsOf, bytesOf, after, written, endOf, firstBack}
 use Rattle.encode.specs.Encode.{tokensIn, bytesIn, badChunk, moved, refused, unlessBack, encoded, Encodes}
 use Rattle.round.specs.Terms.{fresh, textOf}
 use Rattle.round.specs.Chunks.{Call, upTo, whole, isDone, wroteBy, Joined, calls, callsOn, rising, lastEnd, roomy, Cuts}
-use Rattle.round.proofs.Facts.{both-true}
+use Rattle.list.proofs.Pick.{both-true}
 
 -- ---- lists
-pub written-append : (i : ℕ) (p : TokenChunk) (a b : List Token) → written i p (a ++ b) ≡ written i p a ++ written (i + length a) (endOf p a) b
-unfolding written endOf
-written-append i p [] b = rw add-zero
-written-append i p (t ∷ a) b =
-    let e : i + 1 + length a ≡ i + suc (length a) = omega arith in
-    ap (λ (l : List ℕ). bytesOf (eqb i 0) p t ++ l) (written-append (i + 1) (after p t) a b ∙ rw e)
-    ∙ sym (append-assoc (bytesOf (eqb i 0) p t) (written (i + 1) (after p t) a) _)
-
-pub endOf-append : (p : TokenChunk) (a b : List Token) → endOf p (a ++ b) ≡ endOf (endOf p a) b
-unfolding endOf
-endOf-append p [] b = refl
-endOf-append p (t ∷ a) b = endOf-append (after p t) a b
 
 some-none : {A : Type 0} (i : ℕ) → some i ≡ none → A
 some-none i e = let z : _≡_ {A = ℕ} 0 1 = cc in absurd (omega arith)

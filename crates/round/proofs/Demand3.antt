@@ -15,9 +15,10 @@ use Rattle.encode.specs.declared.Encoded.{Encoded}
 use Rattle.round.specs.Terms.{SameTable, fresh, textOf, takesAll}
 use Rattle.round.specs.Chunks.{whole, Joined, callsOn}
 use Rattle.round.specs.Demand3.{SoundTable, PiecesJoin, FreshText, ChunksJoin, RoundTrip, LenientTakes, LenientRoundTrip, TableRoundTrip, TableIsTokens, WriteAndRead, CutAndRead, OneText, CallHandsOver}
-use Rattle.round.proofs.Chunks.{written-append, endOf-append, written-spanned, calls-whole, whole-bytes, whole-call, hands}
+use Rattle.chunk.proofs.Lists.{written-append, endOf-append}
+use Rattle.round.proofs.Chunks.{written-spanned, calls-whole, whole-bytes, whole-call, hands}
 use Rattle.round.proofs.Round.{back, takes-all, sound-more, never-back, not-bad, sound-tokens}
-use Rattle.round.proofs.Tables.{flat-tokens, over-tokens}
+use Rattle.token.proofs.Whole.{flat-tokens, over-tokens}
 
 pub pieces-join : PiecesJoin
 pieces-join i p a b = (written-append i p a b, endOf-append p a b)

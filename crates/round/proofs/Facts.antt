@@ -1,22 +1,19 @@
 -- What the premises say of a token and of the state before it, in plain numbers. Assumes nothing.
-use mathlib.Core.Path.{_≡_, refl, sym}
+use mathlib.Core.Path.{_≡_}
 use mathlib.Core.Bool.{Bool, true, false}
 use mathlib.Core.List.{List, _∷_, _++_}
 use Prim.Native.Nat.{ℕ, _^_, _<_, _≤_}
 use native.Mathlib.Omega.{arith}
 use lib.Dec.{ltb, eqb, leb}
 use borrow.Author.Tests.{ltb-true, leb-true, eqb-true}
-use Rattle.list.specs.Pick.{pick, both}
+use Rattle.list.proofs.Pick.{both-true}
+use Rattle.list.specs.Pick.{pick}
 use Rattle.token.specs.Table.{none, isNone, row}
 use Rattle.token.specs.declared.Token.{Token}
 use Rattle.token.specs.declared.TokenChunk.{TokenChunk}
 use Rattle.chunk.specs.Chunk.{baseOf, after}
 use Rattle.premises.specs.Premises.{idWithin, follows, follow}
 use Rattle.round.specs.Terms.{fits32}
-
-pub both-true : (a b : Bool) → both a b ≡ true → (a ≡ true) × (b ≡ true)
-both-true true b e = (refl, e)
-both-true false b e = let z : true ≡ false = sym e in (sym z, cc)
 
 -- ---- numbers of 32 bits
 pub fits-cons : (x : ℕ) (xs : List ℕ) → fits32 (x ∷ xs) ≡ true → (x < 2 ^ 32) × (fits32 xs ≡ true)

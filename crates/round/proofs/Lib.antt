@@ -6,6 +6,5 @@ pub mod Lead
 pub mod Round
 pub mod Run
 pub mod Sums
-pub mod Tables
 pub mod Taken
 pub mod Value

@@ -19,9 +19,10 @@ use Rattle.chunk.specs.Chunk.{fieldsOf, after, firstBack}
 use Rattle.premises.specs.Premises.{idWithin, follows, follow, premises, decides}
 use Rattle.round.specs.Terms.{fresh, textOf, takes, takesEach, takesFrom, takesAll}
 use Rattle.round.specs.Demand3.{Sound, SoundTable}
-use Rattle.round.proofs.Facts.{both-true, Held}
+use Rattle.list.proofs.Pick.{both-true}
+use Rattle.round.proofs.Facts.{Held}
 use Rattle.round.proofs.Run.{run-back}
-use Rattle.round.proofs.Tables.{flat-tokens}
+use Rattle.token.proofs.Whole.{flat-tokens}
 
 zeros-held : Held (fresh 0 0)
 zeros-held = record { col = omega arith; srcLine = omega arith; srcCol = omega arith; source = omega arith; name = omega arith }

@@ -26,7 +26,8 @@ use Rattle.chunk.specs.Chunk.{lead, baseOf, fieldsOf, spelled, bytesOf, after, 
 use Rattle.round.specs.Terms.{fits32, takesEach, takesFrom}
 use Rattle.round.proofs.Value.{Head, head, head-append}
 use Rattle.round.proofs.Fields.{Ends, fieldsAt, fields-back}
-use Rattle.round.proofs.Facts.{both-true, Fits, fits-token, Held, held-after, After, Meets, meets-after}
+use Rattle.list.proofs.Pick.{both-true}
+use Rattle.round.proofs.Facts.{Fits, fits-token, Held, held-after, After, Meets, meets-after}
 use Rattle.round.proofs.Taken.{stateOf, ledTo, taken}
 use Rattle.round.proofs.Lead.{led, lead-ends}
 

@@ -21,9 +21,10 @@ use Rattle.sums.specs.declared.Id.{Id}
 use Rattle.vlq_write.specs.Write.{vlqValue}
 use Rattle.chunk.specs.Chunk.{baseOf, fieldsOf, after}
 use Rattle.round.specs.Terms.{takes, takesEach}
-use Rattle.round.proofs.Value.{value-less}
+use Rattle.vlq_write.proofs.Values.{value-small}
 use Rattle.round.proofs.Fields.{Small, fieldsAt}
-use Rattle.round.proofs.Facts.{both-true, Fits, Held, base-less, After}
+use Rattle.list.proofs.Pick.{both-true}
+use Rattle.round.proofs.Facts.{Fits, Held, base-less, After}
 use Rattle.apply.proofs.Takes.{state, takes-one, takes-four, takes-five}
 use Rattle.round.proofs.Sums.{sum-back, name-back, id-back}
 
@@ -89,7 +90,7 @@ module _ (p : TokenChunk) (t : Token) where
     col q = sum-back mode (t .«dst_col») (baseOf p t) (f .col) (base-less p t h) q
 
     less₀ : v₀ < 2 ^ 33
-    less₀ = value-less (t .«dst_col») (baseOf p t) (f .col) (base-less p t h)
+    less₀ = value-small (t .«dst_col») (baseOf p t) (f .col) (base-less p t h)
 
     without : isNone (t .«source_id») ≡ true → Taken (v₀ ∷ [])
     unfolding after
@@ -114,13 +115,13 @@ module _ (p : TokenChunk) (t : Token) where
       column q = sum-back mode (t .«src_col») (p .«prev_src_col») (f .srcCol) (h .srcCol) q
 
       less₁ : v₁ < 2 ^ 33
-      less₁ = value-less (t .«source_id») (p .«prev_source_id») (f .source) (h .source)
+      less₁ = value-small (t .«source_id») (p .«prev_source_id») (f .source) (h .source)
 
       less₂ : v₂ < 2 ^ 33
-      less₂ = value-less (t .«src_line») (p .«prev_src_line») (f .srcLine) (h .srcLine)
+      less₂ = value-small (t .«src_line») (p .«prev_src_line») (f .srcLine) (h .srcLine)
 
       less₃ : v₃ < 2 ^ 33
-      less₃ = value-less (t .«src_col») (p .«prev_src_col») (f .srcCol) (h .srcCol)
+      less₃ = value-small (t .«src_col») (p .«prev_src_col») (f .srcCol) (h .srcCol)
 
       with-source : isNone (t .«name_id») ≡ true → Taken (v₀ ∷ v₁ ∷ v₂ ∷ v₃ ∷ [])
       unfolding after
@@ -149,7 +150,7 @@ module _ (p : TokenChunk) (t : Token) where
             takes-five mode sources names (ledTo p t at) (seg (v₀ ∷ v₁ ∷ v₂ ∷ v₃ ∷ v₄ ∷ [])) (t .«dst_col») (col (k₀ .0))
                 (t .«source_id») (t .«src_line») (t .«src_col») (id (k₁ .0)) (line (k₂ .0)) (column (k₃ .0))
                 (t .«name_id») (name-back mode (t .«name_id») (p .«prev_name_id») (f .name) (h .name) (k₄ .0)) (w .named g) refl,
-            (less₀, (less₁, (less₂, (less₃, (value-less (t .«name_id») (p .«prev_name_id») (f .name) (h .name), tt))))),
+            (less₀, (less₁, (less₂, (less₃, (value-small (t .«name_id») (p .«prev_name_id») (f .name) (h .name), tt))))),
           )
 
     by-ids : (b c : Bool) → isNone (t .«source_id») ≡ b → isNone (t .«name_id») ≡ c → Taken (fieldsOf p t)

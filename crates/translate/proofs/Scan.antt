@@ -1,28 +1,18 @@
 -- The first loop: at turn i no token before the i-th is too big. Assumes nothing.
 use mathlib.Core.Path.{_≡_, refl, sym, _∙_, ap}
-use mathlib.Core.Bool.{Bool, true, false}
+use mathlib.Core.Bool.{true, false}
 use mathlib.Core.List.{List, [], _∷_}
 use mathlib.Core.Option.{none, some}
-use Prim.Native.Nat.{ℕ, _+_, _-_, _%_, _≤_, _<_}
+use Prim.Native.Nat.{ℕ, _+_, _-_, _≤_, _<_}
 use native.Mathlib.Omega.{arith}
 use native.Mathlib.Nat.{sub-zero}
-use lib.Dec.{eqb, ltb}
 use lib.ListN.{length}
-use borrow.Author.Tests.{ltb-false}
-use Rattle.list.specs.Pick.{pick}
 use Rattle.code.specs.declared.Code.{Code}
-use Rattle.token.specs.Table.{width, places, badTable, tokenAt, tokensFrom, tokensOf}
+use Rattle.token.proofs.Whole.{few}
+use Rattle.token.specs.Table.{places, badTable, tokenAt, tokensFrom, tokensOf}
 use Rattle.token.specs.declared.Token.{Token}
 use Rattle.token.proofs.Laws.{tokens-step, tokens-none}
 use Rattle.translate.specs.Translate.{tooBig, firstTooBig, unlessTooBig, translatesTo}
-
--- the tokens of a table can be counted in 32 bits
-few-if : (b : Bool) (k : ℕ) → pick b (ltb 4294967294 k) true ≡ false → k ≤ 4294967294
-few-if true k e = ltb-false 4294967294 k e
-few-if false k e = let z : _≡_ {A = ℕ} 0 1 = cc in omega arith
-
-pub few : (numbers : ℕ) → badTable numbers ≡ false → places numbers ≤ 4294967294
-few numbers e = few-if (eqb (numbers % width) 0) (places numbers) e
 
 module _ (line source name : ℕ) where
   pub first-here : (i : ℕ) (t : Token) (ts : List Token) → tooBig line source name t ≡ true → firstTooBig line source name i (t ∷ ts) ≡ some i

@@ -1,4 +1,4 @@
--- A table is the numbers of its tokens. Assumes nothing.
+-- A table that is not bad: the numbers of its tokens, and not too many of them. Assumes nothing.
 use mathlib.Core.Path.{_≡_, refl, sym, _∙_, ap}
 use mathlib.Core.Bool.{Bool, true, false}
 use mathlib.Core.List.{List, _∷_, _++_, append-assoc, append-nil}
@@ -8,10 +8,10 @@ use native.Mathlib.Nat.{add-zero}
 use lib.Dec.{eqb, ltb}
 use lib.ListN.{length, drop, getD, drop-of-length-le}
 use lib.Seq.{drop-cons}
-use borrow.Author.Tests.{eqb-true}
+use borrow.Author.Tests.{eqb-true, ltb-false}
 use Rattle.list.specs.Pick.{pick}
 use Rattle.list.specs.Memory.{onto}
 use Rattle.token.specs.Table.{row, width, places, badTable, tokenAt, tokensFrom, tokensOf, flat, over}
 
 next : (xs : List ℕ) (n m : ℕ) → m ≡ suc n → n < length xs → drop n xs ≡ getD xs n 0 ∷ drop m xs
 next xs n m e h = rw e (drop-cons xs n 0 h)
@@ -45,6 +45,14 @@ whole-by false numbers e h = let z : _≡_ {A = Bool} true false = h in absurd (
   where
     zero-one : true ≡ false → ⊥
     zero-one q = let y : _≡_ {A = ℕ} 0 1 = cc in omega arith
+
+few-if : (b : Bool) (k : ℕ) → pick b (ltb 4294967294 k) true ≡ false → k ≤ 4294967294
+few-if true k e = ltb-false 4294967294 k e
+few-if false k e = let z : _≡_ {A = ℕ} 0 1 = cc in omega arith
+
+-- a table that is not bad has an index of 32 bits for each token
+pub few : (numbers : ℕ) → badTable numbers ≡ false → places numbers ≤ 4294967294
+few numbers e = few-if (eqb (numbers % width) 0) (places numbers) e
 
 pub whole-tokens : (xs : List ℕ) → badTable (length xs) ≡ false → width * places (length xs) ≡ length xs
 whole-tokens xs g = omega (arith, whole-by (eqb (length xs % width) 0) (length xs) refl g)

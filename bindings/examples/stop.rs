@@ -1,0 +1,69 @@
+//! What the controller does when a run stops: decode the protocol's map, look up the stop position, print the
+//! source step. A damaged map is refused with a message that says what to do.
+//!
+//! ```text
+//! stop MAP LINE COLUMN
+//! ```
+//!
+//! MAP has the counts of sources and names on its first line, and the mappings after it, as samples/lysis.txt.
+//! Lines and columns count from 0. Ends with 0: a step was printed; 1: there is none; 2: the map or the call was refused.
+
+use peghayrick::{decode_checked, lookup_token, written, Token};
+use std::process::ExitCode;
+
+const TOKENS: usize = 4096;
+
+/// A decimal number of 32 bits: digits and nothing else.
+fn number(s: &str) -> Option<u32> {
+    s.bytes().all(|b| b.is_ascii_digit()).then(|| s.parse().ok()).flatten()
+}
+
+/// The counts on the first line, and the mappings after it.
+fn parts(map: &[u8]) -> Option<(u32, u32, &[u8])> {
+    let end = map.iter().position(|&b| b == b'\n')?;
+    let (sources, names) = std::str::from_utf8(&map[..end]).ok()?.split_once(' ')?;
+    Some((number(sources)?, number(names)?, &map[end + 1..]))
+}
+
+/// The token at the stop position, if it has a source.
+fn step(map: &[u8], line: u32, col: u32) -> Result<Option<Token>, String> {
+    let (sources, names, mappings) = parts(map).ok_or("the map has no counts on its first line: export it again")?;
+    let mut table = vec![0u32; 6 * TOKENS];
+    let decoded = decode_checked(mappings, sources, names, &mut table).map_err(|refusal| refusal.to_string())?;
+    let token = lookup_token(written(&table, decoded.tokens), line, col).map_err(|refusal| refusal.to_string())?;
+    Ok(token.filter(|t| t.get_source_id().is_some()))
+}
+
+fn main() -> ExitCode {
+    let args: Vec<String> = std::env::args().collect();
+    let (path, line, col) = match &args[..] {
+        [_, path, line, col] => (path, number(line), number(col)),
+        _ => (&String::new(), None, None),
+    };
+    let (Some(line), Some(col)) = (line, col) else {
+        eprintln!("usage: stop MAP LINE COLUMN");
+        return ExitCode::from(2);
+    };
+    let Ok(map) = std::fs::read(path) else {
+        eprintln!("the map cannot be opened: check the path");
+        return ExitCode::from(2);
+    };
+    match step(&map, line, col) {
+        Ok(Some(t)) => {
+            print!("stop {line}:{col} is at source {}, line {}, column {}", t.source_id, t.src_line, t.src_col);
+            if let Some(name) = t.get_name_id() {
+                print!(", name {name}");
+            }
+            println!();
+            ExitCode::SUCCESS
+        }
+        Ok(None) => {
+            println!("stop {line}:{col} has no step in the source");
+            ExitCode::from(1)
+        }
+        Err(why) => {
+            eprintln!("{why}");
+            ExitCode::from(2)
+        }
+    }
+}

@@ -1,0 +1,350 @@
+//! The mapping core of source maps: decode, encode, translate, look up, compose.
+//!
+//! Every function is proved to answer by the format's rules for every input; this crate hands slices
+//! to it and names its answers. It allocates nothing and has no panics: the caller lends all memory.
+//!
+//! ```
+//! use peghayrick::{decode_checked, lookup_token, written, Refusal};
+//!
+//! fn step(mappings: &[u8], sources: u32, names: u32, line: u32, col: u32) -> Result<Option<(u32, u32)>, Refusal> {
+//!     let mut table = [0u32; 6 * 1024];
+//!     let decoded = decode_checked(mappings, sources, names, &mut table)?;
+//!     let token = lookup_token(written(&table, decoded.tokens), line, col)?;
+//!     Ok(token.filter(|t| t.get_source_id().is_some()).map(|t| (t.src_line, t.src_col)))
+//! }
+//!
+//! assert_eq!(step(b"AAEG;C", 1, 0, 0, 7), Ok(Some((2, 3))));
+//! assert_eq!(step(b"AAEG;C", 1, 0, 1, 7), Ok(None));
+//! assert!(step(b"AAE", 1, 0, 0, 0).is_err());
+//! ```
+//!
+//! # Tables
+//! A table is a list of `u32`, six a token, in the order of [`Token`]'s fields. [`NONE`] as an id means none.
+//! A table that is read must have a multiple of six numbers and at most 4,294,967,294 tokens, or else
+//! [`Refusal::BadTable`]. A table that is written has places for its length divided by six, rounded down.
+//! [`tokens_of`] and [`table_of`] see one as the other, without a copy.
+//!
+//! # Refusals
+//! A refused decode keeps the tokens before the refused segment, and says how many they are. Every other
+//! refusal writes nothing.
+#![no_std]
+#![deny(missing_docs, unsafe_op_in_unsafe_fn)]
+
+#[cfg(not(all(target_arch = "x86_64", target_pointer_width = "64")))]
+compile_error!("libpeghayrick.a is built for x86-64");
+
+pub mod raw;
+mod refusal;
+mod token;
+
+pub use refusal::{Refusal, Stop};
+pub use token::{table_of, table_of_mut, tokens_of, written, Token, TokenChunk, NONE, WIDTH};
+
+/// A decode that is done.
+#[derive(Debug, Clone, Copy, PartialEq, Eq)]
+pub struct Decoded {
+    /// How many tokens were written.
+    pub tokens: usize,
+    /// The text's length.
+    pub offset: usize,
+}
+
+fn decoded(d: raw::Decoded) -> Result<Decoded, Refusal> {
+    let (tokens, offset) = (d.tokens as usize, d.offset as usize);
+    match d.code {
+        0 => Ok(Decoded { tokens, offset }),
+        code => Err(Refusal::new(code, d.number, Some(Stop { tokens, offset }))),
+    }
+}
+
+fn answered(a: raw::Answer) -> Result<u64, Refusal> {
+    match a.code {
+        0 => Ok(a.number),
+        code => Err(Refusal::new(code, a.number, None)),
+    }
+}
+
+/// Decodes mappings into a table, by the counts of sources and names that the map lists. It is
+/// [`decode_lenient`]: a decode that names no mode is lenient.
+///
+/// ```
+/// use peghayrick::{decode_mapping, tokens_of, written, Decoded, Refusal, Stop, Token};
+/// let mut table = [0u32; 12];
+/// assert_eq!(decode_mapping(b"AAEG;C", 1, 0, &mut table), Ok(Decoded { tokens: 2, offset: 6 }));
+/// assert_eq!(tokens_of(&table), [Token::new(0, 0, 2, 3, Some(0), None), Token::new(1, 1, 2, 3, None, None)]);
+///
+/// // A refusal says where; the tokens before it are in the table.
+/// let refusal = decode_mapping(b"AAEG;AAAA,!", 1, 0, &mut table).unwrap_err();
+/// assert_eq!(refusal, Refusal::VlqLeftover { at: Stop { tokens: 2, offset: 10 } });
+/// assert_eq!(tokens_of(&table)[1], Token::new(1, 0, 2, 3, Some(0), None));
+/// ```
+///
+/// # Refusals
+/// The first that applies in a segment: [`VlqLeftover`](Refusal::VlqLeftover), [`VlqOverflow`](Refusal::VlqOverflow),
+/// [`BadSegmentSize`](Refusal::BadSegmentSize), [`BadSourceReference`](Refusal::BadSourceReference),
+/// [`BadNameReference`](Refusal::BadNameReference), [`TableFull`](Refusal::TableFull).
+pub fn decode_mapping(mappings: &[u8], sources: u32, names: u32, table: &mut [u32]) -> Result<Decoded, Refusal> {
+    // SAFETY: each slice is lent with its own pointer and length for the call; the two cannot overlap.
+    decoded(unsafe { raw::pgk_decode(mappings.as_ptr(), mappings.len(), sources, names, table.as_mut_ptr(), table.len()) })
+}
+
+/// Decodes as [`decode_mapping`] does: a column, line or name id that leaves 32 bits loses its upper bits.
+///
+/// ```
+/// let mut table = [7u32; 6];
+/// assert!(peghayrick::decode_lenient(b"ggggggI", 0, 0, &mut table).is_ok());
+/// assert_eq!(table[1], 0);
+/// ```
+pub fn decode_lenient(mappings: &[u8], sources: u32, names: u32, table: &mut [u32]) -> Result<Decoded, Refusal> {
+    // SAFETY: as in decode_mapping.
+    decoded(unsafe {
+        raw::pgk_decode_lenient(mappings.as_ptr(), mappings.len(), sources, names, table.as_mut_ptr(), table.len())
+    })
+}
+
+/// Decodes as [`decode_mapping`] does, and refuses a column, line or name id that leaves 32 bits as
+/// [`WideValue`](Refusal::WideValue). Take this one where a wrong position does harm.
+///
+/// ```
+/// use peghayrick::{decode_checked, Refusal, Stop};
+/// let mut table = [7u32; 6];
+/// let refusal = decode_checked(b"ggggggI", 0, 0, &mut table).unwrap_err();
+/// assert_eq!(refusal, Refusal::WideValue { field: 0, at: Stop { tokens: 0, offset: 0 } });
+/// assert_eq!(table, [7; 6]);
+/// ```
+pub fn decode_checked(mappings: &[u8], sources: u32, names: u32, table: &mut [u32]) -> Result<Decoded, Refusal> {
+    // SAFETY: as in decode_mapping.
+    decoded(unsafe {
+        raw::pgk_decode_checked(mappings.as_ptr(), mappings.len(), sources, names, table.as_mut_ptr(), table.len())
+    })
+}
+
+/// A chunk that is written.
+#[derive(Debug, Clone, Copy, PartialEq, Eq)]
+pub struct Encoded {
+    /// How many bytes were written.
+    pub bytes: usize,
+    /// The state for the next chunk: set its `end` and write on.
+    pub next: TokenChunk,
+}
+
+/// Writes a chunk of a table as mappings. Bytes past the count are kept.
+///
+/// ```
+/// use peghayrick::{serialize_mappings, table_of, Refusal, Token, TokenChunk};
+/// let tokens = [Token::new(0, 0, 2, 3, Some(0), None), Token::new(1, 1, 2, 3, None, None)];
+/// let mut out = [0u8; 6];
+///
+/// // In one go,
+/// let whole = serialize_mappings(table_of(&tokens), TokenChunk::first(2), &mut out)?;
+/// assert_eq!((whole.bytes, &out), (6, b"AAEG;C"));
+///
+/// // or in chunks.
+/// let one = serialize_mappings(table_of(&tokens), TokenChunk::first(1), &mut out)?;
+/// let two = serialize_mappings(table_of(&tokens), TokenChunk { end: 2, ..one.next }, &mut out[one.bytes..])?;
+/// assert_eq!((one.bytes, two.bytes, &out), (4, 2, b"AAEG;C"));
+///
+/// // Too little room: the refusal says how much is needed.
+/// let refusal = serialize_mappings(table_of(&tokens), TokenChunk::first(2), &mut out[..5]);
+/// assert_eq!(refusal, Err(Refusal::NoRoom { needed: 6 }));
+/// # Ok::<(), Refusal>(())
+/// ```
+///
+/// # Refusals
+/// In this order: [`BadTable`](Refusal::BadTable), [`BadChunk`](Refusal::BadChunk),
+/// [`LineGoesBack`](Refusal::LineGoesBack), [`NoRoom`](Refusal::NoRoom).
+pub fn serialize_mappings(table: &[u32], chunk: TokenChunk, out: &mut [u8]) -> Result<Encoded, Refusal> {
+    // SAFETY: each slice is lent with its own pointer and length for the call; the two cannot overlap.
+    let e = unsafe { raw::pgk_encode(table.as_ptr(), table.len(), chunk, out.as_mut_ptr(), out.len()) };
+    match e.code {
+        0 => Ok(Encoded { bytes: e.bytes as usize, next: e.next }),
+        code => Err(Refusal::new(code, e.number, None)),
+    }
+}
+
+/// Adds `line_offset` to each generated line, and the other offsets to each id that is not none.
+///
+/// ```
+/// use peghayrick::{translate, Refusal, NONE};
+/// let mut table = [0, 5, 2, 3, 0, NONE];
+/// assert_eq!(translate(&mut table, 10, 2, 2), Ok(()));
+/// assert_eq!(table, [10, 5, 2, 3, 2, NONE]);
+/// assert_eq!(translate(&mut table, 0, NONE - 2, 0), Err(Refusal::TooBig { index: 0 }));
+/// assert_eq!(translate(&mut table[..5], 0, 0, 0), Err(Refusal::BadTable));
+/// ```
+///
+/// # Refusals
+/// [`BadTable`](Refusal::BadTable); [`TooBig`](Refusal::TooBig) if a line would pass 4,294,967,295 or an id reach it.
+pub fn translate(table: &mut [u32], line_offset: u32, source_offset: u32, name_offset: u32) -> Result<(), Refusal> {
+    // SAFETY: the slice is lent with its own pointer and length for the call.
+    answered(unsafe { raw::pgk_translate(table.as_mut_ptr(), table.len(), line_offset, source_offset, name_offset) }).map(|_| ())
+}
+
+/// [`translate`] over token records. [`BadTable`](Refusal::BadTable) only past 4,294,967,294 records.
+///
+/// ```
+/// use peghayrick::{translate_tokens, Token};
+/// let mut tokens = [Token::new(0, 5, 2, 3, Some(0), None)];
+/// assert_eq!(translate_tokens(&mut tokens, 10, 2, 2), Ok(()));
+/// assert_eq!(tokens, [Token::new(10, 5, 2, 3, Some(2), None)]);
+/// ```
+pub fn translate_tokens(tokens: &mut [Token], line_offset: u32, source_offset: u32, name_offset: u32) -> Result<(), Refusal> {
+    // SAFETY: the slice is lent with its own pointer and length for the call.
+    answered(unsafe { raw::pgk_translate_tokens(tokens.as_mut_ptr(), tokens.len(), line_offset, source_offset, name_offset) })
+        .map(|_| ())
+}
+
+/// The index of the token at a generated position: among those on the line with a column at most `col`,
+/// the largest column; among equals, the latest. The table may be in any order.
+///
+/// Hand in the part that was [`written`], or places that were never written are found too.
+///
+/// ```
+/// use peghayrick::{lookup_index, table_of, Token};
+/// let tokens = [Token::new(0, 1, 9, 0, Some(0), None), Token::new(0, 1, 9, 4, Some(0), None)];
+/// assert_eq!(lookup_index(table_of(&tokens), 0, 7), Ok(Some(1)));
+/// assert_eq!(lookup_index(table_of(&tokens), 0, 0), Ok(None));
+/// ```
+///
+/// # Refusals
+/// [`BadTable`](Refusal::BadTable).
+pub fn lookup_index(table: &[u32], line: u32, col: u32) -> Result<Option<u32>, Refusal> {
+    // SAFETY: the slice is lent with its own pointer and length for the call.
+    let number = answered(unsafe { raw::pgk_lookup(table.as_ptr(), table.len(), line, col) })?;
+    Ok(u32::try_from(number).ok().filter(|&index| index != NONE))
+}
+
+/// The token at a generated position, as [`lookup_index`] finds it.
+///
+/// ```
+/// use peghayrick::{lookup_token, table_of, Token};
+/// let tokens = [Token::new(0, 1, 9, 0, Some(0), None), Token::new(0, 6, 9, 4, Some(0), None)];
+/// assert_eq!(lookup_token(table_of(&tokens), 0, 5), Ok(Some(tokens[0])));
+/// assert_eq!(lookup_token(table_of(&tokens), 1, 5), Ok(None));
+/// ```
+pub fn lookup_token(table: &[u32], line: u32, col: u32) -> Result<Option<Token>, Refusal> {
+    let index = lookup_index(table, line, col)?;
+    Ok(index.and_then(|i| tokens_of(table).get(i as usize).copied()))
+}
+
+/// A name list: a text and the end of each name in it; a name begins where the one before it ends.
+///
+/// The ends never fall, the last lies within the text, and there are at most 2,147,483,647, or else
+/// [`Refusal::BadNames`].
+#[derive(Debug, Clone, Copy, PartialEq, Eq, Default)]
+pub struct Names<'a> {
+    /// The names, one after another.
+    pub text: &'a [u8],
+    /// Where each name ends in the text.
+    pub ends: &'a [usize],
+}
+
+/// A composition that is done.
+#[derive(Debug, Clone, Copy, PartialEq, Eq)]
+pub struct Composed {
+    /// How many outer names were added.
+    pub added: usize,
+}
+
+/// Composes two maps: `outer`, from generated to intermediate code, and `inner`, from there to the source.
+///
+/// One result token is written for each outer token. Its name id counts the inner names, then the added
+/// ones: `added` takes, in order, the ids of the outer names that were added. [`name_of`] reads them.
+///
+/// ```
+/// use peghayrick::{compose, name_of, table_of, table_of_mut, Names, Refusal, Token};
+/// let outer = [Token::new(0, 9, 0, 4, Some(0), Some(0)), Token::new(1, 0, 7, 7, Some(0), None)];
+/// let inner = [Token::new(0, 3, 20, 2, Some(1), None)];
+/// let outer_names = Names { text: b"wash", ends: &[4] };
+/// let inner_names = Names { text: b"spin", ends: &[4] };
+///
+/// let mut result = [Token::new(0, 0, 0, 0, None, None); 2];
+/// let mut added = [0u32; 1];
+/// let done = compose(table_of(&outer), 1, outer_names, table_of(&inner), inner_names, table_of_mut(&mut result), &mut added)?;
+///
+/// assert_eq!(result, [Token::new(0, 9, 20, 2, Some(1), Some(1)), Token::new(1, 0, 0, 0, None, None)]);
+/// assert_eq!(name_of(inner_names, outer_names, &added[..done.added], 1), Some(&b"wash"[..]));
+/// # Ok::<(), Refusal>(())
+/// ```
+///
+/// # Refusals
+/// In this order: [`MoreThanOneSource`](Refusal::MoreThanOneSource); [`BadTable`](Refusal::BadTable), outer then
+/// inner; [`BadNames`](Refusal::BadNames) likewise; [`TableFull`](Refusal::TableFull) if the result has fewer places
+/// than outer has tokens; [`NoRoom`](Refusal::NoRoom) if `added` is shorter than the outer names.
+pub fn compose(
+    outer: &[u32],
+    outer_sources: u32,
+    outer_names: Names<'_>,
+    inner: &[u32],
+    inner_names: Names<'_>,
+    result: &mut [u32],
+    added: &mut [u32],
+) -> Result<Composed, Refusal> {
+    // SAFETY: each slice is lent with its own pointer and length for the call; the two that are written overlap nothing.
+    let c = unsafe {
+        raw::pgk_compose(
+            outer.as_ptr(),
+            outer.len(),
+            outer_sources,
+            outer_names.text.as_ptr(),
+            outer_names.text.len(),
+            outer_names.ends.as_ptr(),
+            outer_names.ends.len(),
+            inner.as_ptr(),
+            inner.len(),
+            inner_names.text.as_ptr(),
+            inner_names.text.len(),
+            inner_names.ends.as_ptr(),
+            inner_names.ends.len(),
+            result.as_mut_ptr(),
+            result.len(),
+            added.as_mut_ptr(),
+            added.len(),
+        )
+    };
+    match c.code {
+        0 => Ok(Composed { added: c.added as usize }),
+        code => Err(Refusal::new(code, c.number, None)),
+    }
+}
+
+/// The name of a result id of [`compose`], a part of one of the two texts; `None` for an id that does not
+/// exist or a name list that is broken. Hand in the added names only, not the whole list that was lent.
+///
+/// ```
+/// use peghayrick::{name_of, Names};
+/// let inner = Names { text: b"spin", ends: &[4, 4] };
+/// let outer = Names { text: b"washdry", ends: &[4, 7] };
+/// assert_eq!(name_of(inner, outer, &[1], 0), Some(&b"spin"[..]));
+/// assert_eq!(name_of(inner, outer, &[1], 1), Some(&b""[..]));
+/// assert_eq!(name_of(inner, outer, &[1], 2), Some(&b"dry"[..]));
+/// assert_eq!(name_of(inner, outer, &[1], 3), None);
+/// ```
+pub fn name_of<'a>(inner_names: Names<'a>, outer_names: Names<'a>, added: &[u32], id: u32) -> Option<&'a [u8]> {
+    // SAFETY: each slice is lent with its own pointer and length for the call; none is written.
+    let n = unsafe {
+        raw::pgk_name_of(
+            inner_names.text.as_ptr(),
+            inner_names.text.len(),
+            inner_names.ends.as_ptr(),
+            inner_names.ends.len(),
+            outer_names.text.as_ptr(),
+            outer_names.text.len(),
+            outer_names.ends.as_ptr(),
+            outer_names.ends.len(),
+            added.as_ptr(),
+            added.len(),
+            id,
+        )
+    };
+    if n.found == 0 {
+        return None;
+    }
+    let names = if n.outer == 0 { inner_names } else { outer_names };
+    names.text.get(n.start as usize..n.end as usize)
+}
+
+// The page's examples run as doc tests.
+#[cfg(doctest)]
+#[doc = include_str!("../../../docs/MIGRATION.md")]
+struct Migration;

@@ -1,0 +1,180 @@
+//! Tokens, chunks and tables.
+
+use core::mem::{align_of, size_of, size_of_val};
+use core::slice;
+
+/// As an id: none.
+pub const NONE: u32 = u32::MAX;
+
+/// How many numbers a token has in a table.
+pub const WIDTH: usize = 6;
+
+/// One mapping: a generated position, a source position, and the ids of a source and a name, [`NONE`] for none.
+#[repr(C)]
+#[derive(Debug, Clone, Copy, PartialEq, Eq)]
+pub struct Token {
+    /// The generated line.
+    pub dst_line: u32,
+    /// The generated column.
+    pub dst_col: u32,
+    /// The source line.
+    pub src_line: u32,
+    /// The source column.
+    pub src_col: u32,
+    /// The source id, or [`NONE`].
+    pub source_id: u32,
+    /// The name id, or [`NONE`].
+    pub name_id: u32,
+}
+
+impl Token {
+    /// A token. An id of `Some(4294967295)` is none too.
+    pub const fn new(
+        dst_line: u32,
+        dst_col: u32,
+        src_line: u32,
+        src_col: u32,
+        source_id: Option<u32>,
+        name_id: Option<u32>,
+    ) -> Self {
+        const fn raw(id: Option<u32>) -> u32 {
+            match id {
+                Some(id) => id,
+                None => NONE,
+            }
+        }
+        Self { dst_line, dst_col, src_line, src_col, source_id: raw(source_id), name_id: raw(name_id) }
+    }
+
+    /// The generated line.
+    pub const fn get_dst_line(&self) -> u32 {
+        self.dst_line
+    }
+
+    /// The generated column.
+    pub const fn get_dst_col(&self) -> u32 {
+        self.dst_col
+    }
+
+    /// The source line.
+    pub const fn get_src_line(&self) -> u32 {
+        self.src_line
+    }
+
+    /// The source column.
+    pub const fn get_src_col(&self) -> u32 {
+        self.src_col
+    }
+
+    /// The source id, if there is one.
+    pub const fn get_source_id(&self) -> Option<u32> {
+        if self.source_id == NONE {
+            None
+        } else {
+            Some(self.source_id)
+        }
+    }
+
+    /// The name id, if there is one.
+    pub const fn get_name_id(&self) -> Option<u32> {
+        if self.name_id == NONE {
+            None
+        } else {
+            Some(self.name_id)
+        }
+    }
+}
+
+/// A part of a table that is written at once, and the numbers that its first token is written against.
+#[repr(C)]
+#[derive(Debug, Clone, Copy, Default, PartialEq, Eq)]
+pub struct TokenChunk {
+    /// The first token.
+    pub start: u32,
+    /// The token past the last.
+    pub end: u32,
+    /// The generated line before.
+    pub prev_dst_line: u32,
+    /// The generated column before.
+    pub prev_dst_col: u32,
+    /// The source line before.
+    pub prev_src_line: u32,
+    /// The source column before.
+    pub prev_src_col: u32,
+    /// The name id before.
+    pub prev_name_id: u32,
+    /// The source id before.
+    pub prev_source_id: u32,
+}
+
+impl TokenChunk {
+    /// A chunk.
+    #[allow(clippy::too_many_arguments)]
+    pub const fn new(
+        start: u32,
+        end: u32,
+        prev_dst_line: u32,
+        prev_dst_col: u32,
+        prev_src_line: u32,
+        prev_src_col: u32,
+        prev_name_id: u32,
+        prev_source_id: u32,
+    ) -> Self {
+        Self { start, end, prev_dst_line, prev_dst_col, prev_src_line, prev_src_col, prev_name_id, prev_source_id }
+    }
+
+    /// The first chunk of a table, up to token `end`.
+    pub const fn first(end: u32) -> Self {
+        Self::new(0, end, 0, 0, 0, 0, 0, 0)
+    }
+}
+
+// What the casts below rest on.
+const _: () = assert!(size_of::<Token>() == WIDTH * size_of::<u32>() && align_of::<Token>() == align_of::<u32>());
+
+/// The tokens of a table; one to five numbers past the last whole token are left out.
+///
+/// ```
+/// use peghayrick::{tokens_of, Token, NONE};
+/// assert_eq!(tokens_of(&[1, 2, 3, 4, NONE, NONE, 7]), [Token::new(1, 2, 3, 4, None, None)]);
+/// ```
+pub fn tokens_of(table: &[u32]) -> &[Token] {
+    // SAFETY: a Token is six u32 in a row, aligned as they are; so many whole tokens lie within the slice.
+    unsafe { slice::from_raw_parts(table.as_ptr().cast(), table.len() / WIDTH) }
+}
+
+/// Tokens as a table.
+///
+/// ```
+/// use peghayrick::{table_of, Token, NONE};
+/// assert_eq!(table_of(&[Token::new(1, 2, 3, 4, Some(5), None)]), [1, 2, 3, 4, 5, NONE]);
+/// ```
+pub fn table_of(tokens: &[Token]) -> &[u32] {
+    // SAFETY: a Token is six u32 in a row, aligned as they are; the bytes are the same.
+    unsafe { slice::from_raw_parts(tokens.as_ptr().cast(), size_of_val(tokens) / size_of::<u32>()) }
+}
+
+/// Tokens as a table to write to.
+///
+/// ```
+/// use peghayrick::{decode_mapping, table_of_mut, Token};
+/// let mut tokens = [Token::new(0, 0, 0, 0, None, None); 8];
+/// let decoded = decode_mapping(b"C", 0, 0, table_of_mut(&mut tokens))?;
+/// assert_eq!((decoded.tokens, tokens[0].dst_col), (1, 1));
+/// # Ok::<(), peghayrick::Refusal>(())
+/// ```
+pub fn table_of_mut(tokens: &mut [Token]) -> &mut [u32] {
+    // SAFETY: as in table_of; any six u32 are a Token.
+    unsafe { slice::from_raw_parts_mut(tokens.as_mut_ptr().cast(), size_of_val(tokens) / size_of::<u32>()) }
+}
+
+/// The part of a table that a decode wrote: its first `tokens` tokens, or all that it has.
+///
+/// ```
+/// use peghayrick::written;
+/// assert_eq!(written(&[1, 2, 3, 4, 5, 6, 7], 1), [1, 2, 3, 4, 5, 6]);
+/// assert_eq!(written(&[1, 2, 3, 4, 5, 6, 7], 0), []);
+/// ```
+pub fn written(table: &[u32], tokens: usize) -> &[u32] {
+    table.get(..tokens.saturating_mul(WIDTH)).unwrap_or(table)
+}

@@ -1,0 +1,48 @@
+//! Holds the Rust structs to the C structs: `bindings/test` builds `bindings/tests/layout.c`, and names what it
+//! printed in `PEGHAYRICK_LAYOUT`.
+
+use core::mem::{align_of, offset_of, size_of};
+use peghayrick::{raw, Token, TokenChunk, NONE};
+use std::fmt::Write;
+
+fn width<S, F>(_: fn(&S) -> &F) -> usize {
+    size_of::<F>()
+}
+
+macro_rules! layout {
+    ($out:ident, $c:literal, $rust:ty: $($field:ident)*) => {
+        writeln!($out, "{} {} {}", $c, size_of::<$rust>(), align_of::<$rust>()).unwrap();
+        $(
+            let size = width::<$rust, _>(|s| &s.$field);
+            writeln!($out, "{}.{} {} {}", $c, stringify!($field), offset_of!($rust, $field), size).unwrap();
+        )*
+    };
+}
+
+fn rust() -> String {
+    let mut out = String::new();
+    layout!(out, "pgk_token", Token: dst_line dst_col src_line src_col source_id name_id);
+    layout!(out, "pgk_chunk", TokenChunk: start end prev_dst_line prev_dst_col prev_src_line prev_src_col prev_name_id prev_source_id);
+    layout!(out, "pgk_answer", raw::Answer: code number);
+    layout!(out, "pgk_decoded", raw::Decoded: code number tokens offset);
+    layout!(out, "pgk_encoded", raw::Encoded: code number bytes next);
+    layout!(out, "pgk_composed", raw::Composed: code number added);
+    layout!(out, "pgk_name", raw::Name: found outer start end);
+    layout!(out, "size_t", usize:);
+    writeln!(out, "PGK_NONE {NONE}").unwrap();
+    out
+}
+
+#[test]
+fn the_structs_of_both_are_laid_out_alike() {
+    let path = std::env::var_os("PEGHAYRICK_LAYOUT").expect("run bindings/test, which builds the C side");
+    assert_eq!(rust(), std::fs::read_to_string(path).expect("what layout.c printed"));
+}
+
+/// The sizes by number, so that both sides cannot move together.
+#[test]
+fn sizes() {
+    assert_eq!((size_of::<Token>(), size_of::<TokenChunk>()), (24, 32));
+    assert_eq!((size_of::<raw::Answer>(), size_of::<raw::Decoded>(), size_of::<raw::Encoded>()), (16, 32, 56));
+    assert_eq!((size_of::<raw::Composed>(), size_of::<raw::Name>()), (24, 32));
+}

@@ -1,0 +1,136 @@
+//! Every code through the safe functions, with its number, its place and its words.
+
+use peghayrick::*;
+
+const AT: Stop = Stop { tokens: 1, offset: 5 };
+
+/// Decodes `AAAA,` and the segment into a table of two places, in checked mode or not.
+fn second(segment: &str, checked: bool) -> Refusal {
+    let text = format!("AAAA,{segment}");
+    let mut table = [7u32; 13];
+    let decode = if checked { decode_checked } else { decode_lenient };
+    let refusal = decode(text.as_bytes(), 1, 1, &mut table).unwrap_err();
+    assert_eq!(table[..6], [0, 0, 0, 0, 0, NONE]);
+    assert_eq!(table[6..], [7; 7]);
+    refusal
+}
+
+/// Code, number and place agree, and the words name the refusal and something to do.
+fn holds(refusal: Refusal, want: Refusal, code: u64, number: u64, at: Option<Stop>, says: &str) {
+    assert_eq!(refusal, want);
+    assert_eq!((refusal.code(), refusal.number(), refusal.at()), (code, number, at));
+    let words = refusal.to_string();
+    assert!(words.contains(says), "{words}");
+    assert!(words.contains(refusal.name()) && words.contains("; "), "{words}");
+    assert!(format!("{refusal:?}").starts_with(refusal.name()));
+}
+
+#[test]
+fn done() {
+    let mut table = [0u32; 6];
+    assert_eq!(decode_mapping(b"", 0, 0, &mut []), Ok(Decoded { tokens: 0, offset: 0 }));
+    assert_eq!(decode_mapping(b"A", 0, 0, &mut table), Ok(Decoded { tokens: 1, offset: 1 }));
+    assert_eq!(table, [0, 0, 0, 0, NONE, NONE]);
+}
+
+#[test]
+fn decoding() {
+    let at = Some(AT);
+    for checked in [false, true] {
+        holds(second("!", checked), Refusal::VlqLeftover { at: AT }, 1, 0, at, "byte 5: a value is cut short");
+        holds(second("gggggggggggggA", checked), Refusal::VlqOverflow { at: AT }, 2, 0, at, "more than 13 digits");
+        holds(second("AAA", checked), Refusal::BadSegmentSize { fields: 3, at: AT }, 3, 3, at, "3 fields");
+        holds(second("D", checked), Refusal::BadSegmentSize { fields: 0, at: AT }, 3, 0, at, "below 0");
+        holds(second("ACAA", checked), Refusal::BadSourceReference { source_id: 0, at: AT }, 4, 0, at, "source");
+        holds(second("AAAAC", checked), Refusal::BadNameReference { name_id: 1, at: AT }, 5, 1, at, "name 1");
+    }
+    holds(second("AAAAD", false), Refusal::BadNameReference { name_id: NONE, at: AT }, 5, 4294967295, at, "name 4294967295");
+    holds(second("ggggggI", true), Refusal::WideValue { field: 0, at: AT }, 6, 0, at, "generated column");
+    holds(second("AAggggggIA", true), Refusal::WideValue { field: 2, at: AT }, 6, 2, at, "source line");
+    holds(second("AAAggggggI", true), Refusal::WideValue { field: 3, at: AT }, 6, 3, at, "source column");
+    holds(second("AAAAD", true), Refusal::WideValue { field: 4, at: AT }, 6, 4, at, "name id");
+    let full = decode_mapping(b"AAAA,A", 1, 0, &mut [7; 11]).unwrap_err();
+    holds(full, Refusal::TableFull { at }, 7, 0, at, "lend a larger table");
+}
+
+#[test]
+fn writing() {
+    let tokens = [Token::new(1, 0, 0, 0, None, None), Token::new(0, 0, 0, 0, None, None)];
+    let table = table_of(&tokens);
+    let mut out = *b"####";
+    let mut write = |table: &[u32], chunk, room: usize| serialize_mappings(table, chunk, &mut out[..room]).unwrap_err();
+    holds(write(table, TokenChunk::first(1), 1), Refusal::NoRoom { needed: 2 }, 8, 2, None, "2 places are needed");
+    holds(write(table, TokenChunk::first(2), 4), Refusal::LineGoesBack { index: 1 }, 9, 1, None, "token 1");
+    holds(write(table, TokenChunk::first(3), 4), Refusal::BadChunk, 10, 0, None, "chunk");
+    holds(write(&table[..7], TokenChunk::first(1), 4), Refusal::BadTable, 11, 0, None, "six numbers a token");
+    assert_eq!(&out, b"####");
+}
+
+#[test]
+fn translating() {
+    let mut tokens = [Token::new(0, 0, 0, 0, None, None), Token::new(0, 0, 0, 0, Some(NONE - 1), None)];
+    let before = tokens;
+    let refusal = translate_tokens(&mut tokens, 0, 1, 0).unwrap_err();
+    holds(refusal, Refusal::TooBig { index: 1 }, 12, 1, None, "token 1");
+    let refusal = translate(table_of_mut(&mut tokens), NONE, 1, 0).unwrap_err();
+    holds(refusal, Refusal::TooBig { index: 1 }, 12, 1, None, "nothing was moved");
+    assert_eq!(tokens, before);
+    assert_eq!(translate(&mut [0; 5], 0, 0, 0), Err(Refusal::BadTable));
+    assert_eq!(lookup_token(&[0; 5], 0, 0), Err(Refusal::BadTable));
+    assert_eq!(translate_tokens(&mut [], NONE, NONE, NONE), Ok(()));
+}
+
+#[test]
+fn composing() {
+    let outer = [Token::new(0, 0, 0, 0, Some(0), Some(0))];
+    let outer = table_of(&outer);
+    let names = Names { text: b"ab", ends: &[1, 2] };
+    let none = Names::default();
+    let mut result = [7u32; 7];
+    let mut added = [7u32; 2];
+    let mut call = |outer: &[u32], sources, names, inner: &[u32], places: usize, room: usize| {
+        compose(outer, sources, names, inner, none, &mut result[..places], &mut added[..room]).unwrap_err()
+    };
+    holds(call(outer, 2, names, outer, 7, 2), Refusal::MoreThanOneSource, 13, 0, None, "more than one source");
+    holds(call(&outer[1..], 1, names, outer, 7, 2), Refusal::BadTable, 11, 0, None, "whole tokens");
+    holds(call(outer, 1, names, &outer[1..], 7, 2), Refusal::BadTable, 11, 0, None, "whole tokens");
+    holds(call(outer, 1, Names { text: b"ab", ends: &[1, 3] }, outer, 7, 2), Refusal::BadNames, 14, 0, None, "name list");
+    holds(call(outer, 1, Names { text: b"ab", ends: &[2, 1] }, outer, 7, 2), Refusal::BadNames, 14, 0, None, "name list");
+    holds(call(outer, 1, names, outer, 5, 2), Refusal::TableFull { at: None }, 7, 0, None, "outer table");
+    holds(call(outer, 1, names, outer, 7, 1), Refusal::NoRoom { needed: 2 }, 8, 2, None, "2 places");
+    assert_eq!((result, added), ([7; 7], [7; 2]));
+    let done = compose(outer, 1, names, outer, none, &mut result, &mut added);
+    assert_eq!(done, Ok(Composed { added: 0 }));
+    assert_eq!(result, [0, 0, 0, 0, 0, 0, 7]);
+    assert_eq!(name_of(Names { text: b"", ends: &[1] }, none, &[], 0), None);
+    assert_eq!(name_of(none, names, &[1], 0), Some(&b"b"[..]));
+    assert_eq!(name_of(none, names, &[2], 0), None);
+    assert_eq!(name_of(none, names, &[1], NONE), None);
+}
+
+/// Empty slices: their address is never null.
+#[test]
+fn nothing_lent() {
+    let empty: Vec<u32> = Vec::new();
+    assert_eq!(decode_checked(&[], NONE, NONE, &mut empty.clone()), Ok(Decoded { tokens: 0, offset: 0 }));
+    assert_eq!(serialize_mappings(&empty, TokenChunk::default(), &mut []), Ok(Encoded { bytes: 0, next: TokenChunk::default() }));
+    assert_eq!(lookup_token(&empty, 0, 0), Ok(None));
+    assert_eq!(translate(&mut empty.clone(), 1, 1, 1), Ok(()));
+    assert_eq!(compose(&empty, 0, Names::default(), &empty, Names::default(), &mut [], &mut []), Ok(Composed { added: 0 }));
+    assert_eq!(name_of(Names::default(), Names::default(), &[], 0), None);
+}
+
+/// Tables cut at every place: four-byte alignment is enough.
+#[test]
+fn any_alignment() {
+    let mut numbers = [0u32; 16];
+    for start in 0..4 {
+        let table = &mut numbers[start..start + 12];
+        assert_eq!(decode_mapping(b"AAEG;C", 1, 0, table), Ok(Decoded { tokens: 2, offset: 6 }));
+        assert_eq!(lookup_index(table, 1, 1), Ok(Some(1)));
+        assert_eq!(translate_tokens(&mut [tokens_of(table)[1]], 1, 1, 1), Ok(()));
+        let mut out = [0u8; 6];
+        assert_eq!(serialize_mappings(table, TokenChunk::first(2), &mut out).map(|e| e.bytes), Ok(6));
+        assert_eq!(&out, b"AAEG;C");
+    }
+}

@@ -1,0 +1,529 @@
+/* The boundary, tested from C as an attacker would: lent memory flush with guard pages, read-only where the
+ * library only reads, aligned to four bytes only, of length 0, and full of what the library must not touch.
+ *
+ *     boundary ROUNDS
+ *
+ * A read or write outside the lent memory ends the program by a signal. */
+#define _GNU_SOURCE
+#include <stdio.h>
+#include <stdlib.h>
+#include <string.h>
+#include <sys/mman.h>
+#include "peghayrick.h"
+
+enum { PAGE = 4096, PEN = 2 * PAGE, MARK = 0xA5 };
+
+static unsigned passed, failed;
+
+static void check(int ok, const char *what) {
+    if (ok) passed++;
+    else { failed++; printf("FAILED: %s\n", what); }
+}
+
+static uint64_t seed = 88172645463325252u;
+static uint32_t any(void) { seed ^= seed << 13; seed ^= seed >> 7; seed ^= seed << 17; return (uint32_t)(seed >> 16); }
+static uint32_t below(uint32_t n) { return any() % n; }
+
+/* Pens: two pages between two guard pages. A lent list stands at the pen's start, at its end, or, as big as
+ * it is, on the heap behind four bytes, where valgrind watches both of its ends. */
+typedef enum { FIRST, LAST, HEAP, PLACES } place;
+typedef struct { uint8_t *pen, *at, *heap; size_t bytes; int writable; } lent;
+
+static uint8_t *new_pen(void) {
+    uint8_t *m = mmap(NULL, PEN + 2 * PAGE, PROT_NONE, MAP_PRIVATE | MAP_ANONYMOUS, -1, 0);
+    if (m == MAP_FAILED || mprotect(m + PAGE, PEN, PROT_READ | PROT_WRITE) != 0) { printf("no pen\n"); exit(2); }
+    return m + PAGE;
+}
+
+static lent lend(uint8_t *pen, place where, const void *from, size_t bytes, int writable) {
+    lent l = { pen, NULL, NULL, bytes, writable };
+    if (bytes > PEN) { printf("pen too small\n"); exit(2); }
+    if (where == HEAP) {
+        l.heap = malloc(bytes + 4);
+        memset(l.heap, MARK, 4);
+        l.at = l.heap + 4;
+        memcpy(l.at, from, bytes);
+        return l;
+    }
+    mprotect(pen, PEN, PROT_READ | PROT_WRITE);
+    memset(pen, MARK, PEN);
+    l.at = where == FIRST ? pen : pen + PEN - bytes;
+    memcpy(l.at, from, bytes);
+    if (!writable) mprotect(pen, PEN, PROT_READ);
+    return l;
+}
+
+/* Whether everything beside the lent bytes is as it was; the lent bytes go to `to`. */
+static int back(lent l, void *to) {
+    int ok = 1;
+    if (to != NULL) memcpy(to, l.at, l.bytes);
+    if (l.heap != NULL) {
+        for (int i = 0; i < 4; i++) ok &= l.heap[i] == MARK;
+        free(l.heap);
+        return ok;
+    }
+    for (uint8_t *p = l.pen; p < l.pen + PEN; p++)
+        if (p < l.at || p >= l.at + l.bytes) ok &= *p == MARK;
+    return ok;
+}
+
+static uint8_t *pens[8];
+
+/* Decoding in one mode (0 as by default, 1 lenient, 2 checked), from one place to another. */
+static pgk_decoded decode_at(int mode, place from, place to, const void *text, size_t len, uint32_t s, uint32_t n,
+    uint32_t *table, size_t numbers, int *ok) {
+    lent a = lend(pens[0], from, text, len, 0), b = lend(pens[1], to, table, 4 * numbers, 1);
+    uint32_t *t = (uint32_t *)b.at;
+    pgk_decoded d = mode == 0 ? pgk_decode(a.at, len, s, n, t, numbers)
+        : mode == 1 ? pgk_decode_lenient(a.at, len, s, n, t, numbers) : pgk_decode_checked(a.at, len, s, n, t, numbers);
+    *ok &= back(b, table) & back(a, NULL);
+    return d;
+}
+
+static int same_decoded(pgk_decoded a, pgk_decoded b) {
+    return a.code == b.code && a.number == b.number && a.tokens == b.tokens && a.offset == b.offset;
+}
+
+/* One text in every placement: one answer, no trace outside, the table past the tokens kept. */
+static int decode_all(int mode, const char *text, size_t len, uint32_t s, uint32_t n, size_t numbers, pgk_decoded want, uint32_t *out) {
+    int ok = 1;
+    for (place i = FIRST; i < PLACES; i++)
+        for (place j = FIRST; j < PLACES; j++) {
+            uint32_t table[1024];
+            for (size_t k = 0; k < numbers; k++) table[k] = 0x5EED0000u + (uint32_t)k;
+            pgk_decoded d = decode_at(mode, i, j, text, len, s, n, table, numbers, &ok);
+            ok &= same_decoded(d, want);
+            for (size_t k = 6 * d.tokens; k < numbers; k++) ok &= table[k] == 0x5EED0000u + (uint32_t)k;
+            if (out != NULL && ok) memcpy(out, table, 24 * d.tokens);
+        }
+    return ok;
+}
+
+static const uint32_t none = PGK_NONE;
+
+/* The worked texts of the format's rules, in the modes that they name. */
+static void worked(void) {
+    static const struct { const char *text; uint32_t s, n, code, number, wide_code, wide_number; uint64_t tokens; uint32_t column; } rows[] = {
+        { "", 0, 0, 0, 0, 0, 0, 0, 0 },
+        { "A", 0, 0, 0, 0, 0, 0, 1, 0 },
+        { "AAAA", 0, 0, 4, 0, 4, 0, 0, 0 },
+        { "ACAA", 1, 0, 4, 0, 4, 0, 0, 0 },
+        { "AAAAD", 1, 1, 5, 4294967295u, 6, 4, 0, 0 },
+        { "DAA", 1, 0, 3, 0, 3, 0, 0, 0 },
+        { "AAA", 1, 0, 3, 3, 3, 3, 0, 0 },
+        { "AAAAAA", 1, 1, 3, 6, 3, 6, 0, 0 },
+        { "+/////H", 0, 0, 0, 0, 0, 0, 1, 4294967295u },
+        { "ggggggI", 0, 0, 0, 0, 6, 0, 1, 0 },
+        { "ggggggggggggA", 0, 0, 0, 0, 0, 0, 1, 0 },
+        { "gggggggggggggA", 0, 0, 2, 0, 2, 0, 0, 0 },
+        { "!", 0, 0, 1, 0, 1, 0, 0, 0 },
+        { "!A", 0, 0, 3, 0, 3, 0, 0, 0 },
+        { "\x80", 0, 0, 1, 0, 1, 0, 0, 0 },
+    };
+    for (size_t i = 0; i < sizeof rows / sizeof *rows; i++) {
+        size_t len = strlen(rows[i].text);
+        for (int mode = 0; mode < 3; mode++) {
+            uint32_t code = mode == 2 ? rows[i].wide_code : rows[i].code, number = mode == 2 ? rows[i].wide_number : rows[i].number;
+            uint32_t out[6] = { 0 };
+            pgk_decoded want = { code, number, code == 0 ? rows[i].tokens : 0, code == 0 ? len : 0 };
+            int ok = decode_all(mode, rows[i].text, len, rows[i].s, rows[i].n, 13, want, out);
+            if (code == 0 && rows[i].tokens == 1) ok &= out[0] == 0 && out[1] == rows[i].column && out[4] == none && out[5] == none;
+            check(ok, rows[i].text);
+        }
+    }
+    uint32_t out[12], two[12] = { 0, 0, 2, 3, 0, none, 1, 1, 2, 3, none, none };
+    for (int mode = 0; mode < 3; mode++)
+        check(decode_all(mode, "AAEG;C", 6, 1, 0, 12, (pgk_decoded){ 0, 0, 2, 6 }, out) && memcmp(out, two, 48) == 0, "AAEG;C");
+    check(decode_all(0, "AAEG;C", 6, 1, 0, 11, (pgk_decoded){ 7, 0, 1, 5 }, out), "TableFull, eleven numbers");
+    check(decode_all(0, "AAEG;AAA", 8, 1, 0, 6, (pgk_decoded){ 3, 3, 1, 5 }, out), "a full table and a bad segment: the segment's code");
+    check(decode_all(0, "A", 1, 0, 0, 0, (pgk_decoded){ 7, 0, 0, 0 }, NULL), "TableFull, no table");
+    check(decode_all(0, ";;,", 3, 0, 0, 0, (pgk_decoded){ 0, 0, 0, 3 }, NULL), "delimiters need no table");
+}
+
+/* Texts at random: every placement answers alike, what stands before a refused segment decodes to the same tokens. */
+static void texts(unsigned rounds) {
+    static const char digits[] = "ABCDEFGHIJKLMNOPQRSTUVWXYZabcdefghijklmnopqrstuvwxyz0123456789+/";
+    int alike = 1, sound = 1, cut = 1;
+    for (unsigned r = 0; r < rounds; r++) {
+        char text[128];
+        size_t len = below(97), numbers = below(64);
+        uint32_t wild = below(40);
+        for (size_t i = 0; i < len; i++) {
+            uint32_t x = below(20);
+            text[i] = x < 3 ? ',' : x < 4 ? ';' : x < 15 ? digits[2 * below(8)] : below(40) < wild ? (char)any() : digits[below(64)];
+        }
+        uint32_t s = below(4) ? 1 + below(8) : any(), n = below(4) ? below(8) : any();
+        int mode = (int)below(3);
+        uint32_t table[64], again[64];
+        for (size_t k = 0; k < 64; k++) table[k] = again[k] = 0x5EED0000u + (uint32_t)k;
+        pgk_decoded d = decode_at(mode, HEAP, HEAP, text, len, s, n, table, numbers, &alike);
+        alike &= decode_all(mode, text, len, s, n, numbers, d, NULL);
+        sound &= d.code <= 7 && 6 * d.tokens <= numbers && d.offset <= len && (d.code != 0 || d.offset == len);
+        for (size_t t = 0; t < d.tokens && sound; t++)
+            sound &= (table[6 * t + 4] == none || table[6 * t + 4] < s) && (table[6 * t + 5] == none || table[6 * t + 5] < n);
+        pgk_decoded e = decode_at(mode, LAST, LAST, text, d.offset, s, n, again, numbers, &alike);
+        cut &= e.code == 0 && e.tokens == d.tokens && e.offset == d.offset && memcmp(table, again, sizeof table) == 0;
+    }
+    check(alike, "texts: one answer in every placement, nothing outside touched");
+    check(sound, "texts: counts, offsets and ids within their bounds");
+    check(cut, "texts: the part before a refused segment is done, with the same tokens");
+}
+
+static int same_chunk(pgk_chunk a, pgk_chunk b) { return memcmp(&a, &b, sizeof a) == 0; }
+
+static pgk_encoded encode_at(place from, place to, const uint32_t *table, size_t numbers, pgk_chunk c, uint8_t *out, size_t room, int *ok) {
+    lent a = lend(pens[0], from, table, 4 * numbers, 0), b = lend(pens[1], to, out, room, 1);
+    pgk_encoded e = pgk_encode((uint32_t *)a.at, numbers, c, b.at, room);
+    *ok &= back(b, out) & back(a, NULL);
+    return e;
+}
+
+static int encode_all(const uint32_t *table, size_t numbers, pgk_chunk c, size_t room, uint64_t code, uint64_t number, uint64_t bytes,
+    pgk_chunk next, uint8_t *got) {
+    int ok = 1;
+    for (place i = FIRST; i < PLACES; i++)
+        for (place j = FIRST; j < PLACES; j++) {
+            uint8_t out[4096];
+            memset(out, '#', sizeof out);
+            pgk_encoded e = encode_at(i, j, table, numbers, c, out, room, &ok);
+            ok &= e.code == code && e.number == number && e.bytes == bytes && same_chunk(e.next, next);
+            for (size_t k = bytes; k < sizeof out; k++) ok &= out[k] == '#';
+            if (got != NULL && ok) memcpy(got, out, bytes);
+        }
+    return ok;
+}
+
+static void writing(unsigned rounds) {
+    uint32_t two[12] = { 0, 0, 2, 3, 0, none, 1, 1, 2, 3, none, none };
+    pgk_chunk all = { 0, 2, 0, 0, 0, 0, 0, 0 }, end = { 2, 2, 1, 1, 2, 3, 0, 0 };
+    uint8_t got[4096];
+    check(encode_all(two, 12, all, 6, 0, 0, 6, end, got) && memcmp(got, "AAEG;C", 6) == 0, "AAEG;C is written, flush");
+    check(encode_all(two, 12, all, 64, 0, 0, 6, end, got), "AAEG;C is written, the rest kept");
+    check(encode_all(two, 12, all, 5, 8, 6, 0, all, NULL), "NoRoom 6");
+    check(encode_all(two, 12, all, 0, 8, 6, 0, all, NULL), "NoRoom 6, no room at all");
+    check(encode_all(two, 11, all, 64, 11, 0, 0, all, NULL), "BadTable");
+    pgk_chunk bad = { 1, 0, 9, 8, 7, 6, 5, 4 }, far = { 0, 3, 9, 8, 7, 6, 5, 4 }, huge = { 4294967295u, 4294967295u, 0, 0, 0, 0, 0, 0 };
+    check(encode_all(two, 12, bad, 64, 10, 0, 0, bad, NULL), "BadChunk, start past end");
+    check(encode_all(two, 12, far, 64, 10, 0, 0, far, NULL), "BadChunk, end past the table");
+    check(encode_all(two, 12, huge, 64, 10, 0, 0, huge, NULL), "BadChunk, the largest numbers");
+    pgk_chunk late = { 0, 2, 1, 0, 0, 0, 0, 0 };
+    check(encode_all(two, 12, late, 64, 9, 0, 0, late, NULL), "LineGoesBack 0");
+    uint32_t fall[12] = { 1, 0, 0, 0, none, none, 0, 0, 0, 0, none, none };
+    check(encode_all(fall, 12, all, 64, 9, 1, 0, all, NULL), "LineGoesBack 1");
+    pgk_chunk empty = { 1, 1, 9, 8, 7, 6, 5, 4 };
+    check(encode_all(two, 12, empty, 0, 0, 0, 0, empty, NULL), "an empty chunk");
+    uint32_t deep[6] = { 4294967295u, 4294967295u, 4294967295u, 4294967295u, 4294967294u, 4294967294u };
+    pgk_chunk one = { 0, 1, 0, 0, 0, 0, 0, 0 }, done = { 1, 1, 4294967295u, 4294967295u, 4294967295u, 4294967295u, 4294967294u, 4294967294u };
+    check(encode_all(deep, 6, one, 64, 8, 4294967295u + 35ull, 0, one, NULL), "NoRoom past 32 bits");
+    /* Huge counts: the largest ids, there and back. */
+    pgk_chunk deep_line = one;
+    deep_line.prev_dst_line = 4294967295u;
+    deep[0] = 4294967295u;
+    check(encode_all(deep, 6, deep_line, 35, 0, 0, 35, done, got), "the largest numbers are written in 35 bytes");
+    uint32_t back_again[6];
+    for (int mode = 0; mode < 3; mode++) {
+        int ok = decode_all(mode, (char *)got, 35, 4294967295u, 4294967295u, 6, (pgk_decoded){ 0, 0, 1, 35 }, back_again);
+        check(ok && memcmp(back_again + 1, deep + 1, 20) == 0, "4294967295 sources and names");
+        check(decode_all(mode, (char *)got, 35, 4294967294u, 4294967295u, 6, (pgk_decoded){ 4, 0, 0, 0 }, NULL), "4294967294 sources");
+        check(decode_all(mode, (char *)got, 35, 4294967295u, 4294967294u, 6, (pgk_decoded){ 5, 4294967294u, 0, 0 }, NULL), "4294967294 names");
+    }
+    int round = 1, joined = 1, room = 1;
+    for (unsigned r = 0; r < rounds; r++) {
+        uint32_t table[96], read[96] = { 0 }, count = below(17), line = 0;
+        for (uint32_t t = 0; t < count; t++) {
+            uint32_t *k = table + 6 * t;
+            line += below(3) ? 0 : below(4);
+            uint32_t size = below(3) ? 40 : 4294967295u;
+            k[0] = line; k[1] = below(size); k[2] = below(size); k[3] = below(size);
+            k[4] = below(4) ? below(size) : none; k[5] = k[4] != none && below(2) ? below(size) : none;
+            if (k[4] == none) { k[2] = t ? k[-4] : 0; k[3] = t ? k[-3] : 0; }
+        }
+        uint8_t whole[4096], parts[4096];
+        memset(whole, '#', sizeof whole);
+        pgk_chunk c = { 0, count, 0, 0, 0, 0, 0, 0 };
+        int ok = 1;
+        pgk_encoded e = encode_at(FIRST, FIRST, table, 6 * count, c, whole, 4096, &ok);
+        round &= ok && e.code == 0 && e.next.start == count && e.next.end == count;
+        pgk_decoded d = decode_at((int)below(3), LAST, LAST, whole, e.bytes, 4294967295u, 4294967295u, read, 6 * count, &ok);
+        round &= ok && d.code == 0 && d.tokens == count && memcmp(table, read, 24 * count) == 0;
+        if (e.bytes > 0) room &= encode_all(table, 6 * count, c, e.bytes - 1, 8, e.bytes, 0, c, NULL);
+        room &= encode_all(table, 6 * count, c, e.bytes, 0, 0, e.bytes, e.next, NULL);
+        size_t at = 0;
+        pgk_chunk next = { 0, 0, 0, 0, 0, 0, 0, 0 };
+        while (next.start < count) {
+            next.end = next.start + 1 + below(count - next.start);
+            memset(parts + at, '#', sizeof parts - at);
+            pgk_encoded p = encode_at(LAST, LAST, table, 6 * count, next, parts + at, 4096 - at, &ok);
+            if (p.code != 0 || p.next.start != next.end) { joined = 0; break; }
+            at += p.bytes; next = p.next;
+        }
+        joined &= ok && at == e.bytes && memcmp(whole, parts, at) == 0;
+    }
+    check(round, "tables: written and decoded again, the same tokens");
+    check(room, "tables: one byte too few is NoRoom with the bytes needed, the exact room is enough");
+    check(joined, "tables: chunks of any size, joined, are the text of the whole");
+}
+
+/* Translation by the rule. 0 if refused, with the index in *bad. */
+static int moved(uint32_t *k, size_t tokens, uint32_t l, uint32_t s, uint32_t n, uint64_t *bad) {
+    uint32_t new[96];
+    memcpy(new, k, 24 * tokens);
+    for (size_t t = 0; t < tokens; t++) {
+        uint32_t *x = new + 6 * t;
+        *bad = t;
+        if ((uint64_t)x[0] + l > 4294967295u) return 0;
+        if (x[4] != none && (uint64_t)x[4] + s >= 4294967295u) return 0;
+        if (x[5] != none && (uint64_t)x[5] + n >= 4294967295u) return 0;
+        x[0] += l;
+        if (x[4] != none) x[4] += s;
+        if (x[5] != none) x[5] += n;
+    }
+    memcpy(k, new, 24 * tokens);
+    return 1;
+}
+
+static void translating(unsigned rounds) {
+    int tables = 1, records = 1;
+    for (unsigned r = 0; r < rounds; r++) {
+        uint32_t table[96], want[96], got[96];
+        size_t numbers = below(97);
+        for (size_t k = 0; k < 96; k++) { uint32_t x = below(30); table[k] = x < 4 ? none : x == 4 ? none - 1 - below(9) : below(1000); }
+        uint32_t l = below(20), s = below(20), n = below(20);
+        for (size_t k = 0; k + 6 <= 96; k += 6) if (below(8)) table[k] = below(1000);
+        uint64_t code = 0, number = 0;
+        memcpy(want, table, sizeof table);
+        if (numbers % 6 != 0) code = 11;
+        else if (!moved(want, numbers / 6, l, s, n, &number)) code = 12;
+        else number = 0;
+        for (place i = FIRST; i < PLACES; i++) {
+            memcpy(got, table, sizeof table);
+            lent a = lend(pens[0], i, got, 4 * numbers, 1);
+            pgk_answer d = pgk_translate((uint32_t *)a.at, numbers, l, s, n);
+            tables &= back(a, got) && d.code == code && d.number == number && memcmp(got, want, sizeof got) == 0;
+            if (numbers % 6 != 0) continue;
+            memcpy(got, table, sizeof table);
+            a = lend(pens[0], i, got, 4 * numbers, 1);
+            d = pgk_translate_tokens((pgk_token *)a.at, numbers / 6, l, s, n);
+            records &= back(a, got) && d.code == code && d.number == number && memcmp(got, want, sizeof got) == 0;
+        }
+    }
+    check(tables, "translating tables, by the rule, refused as a whole");
+    check(records, "translating records, by the rule, refused as a whole");
+    uint32_t id[6] = { 0, 0, 0, 0, 4294967294u, none };
+    pgk_answer a = pgk_translate(id, 6, 0, 1, 0);
+    check(a.code == 12 && a.number == 0 && id[4] == 4294967294u, "TooBig: an id sum of 4294967295 does not become none");
+    a = pgk_translate(id, 6, 4294967295u, 0, 4294967295u);
+    check(a.code == 0 && id[0] == 4294967295u && id[5] == none, "the largest line, none stays none");
+}
+
+static uint64_t found(const uint32_t *k, size_t tokens, uint32_t line, uint32_t col) {
+    uint64_t best = none;
+    for (size_t t = 0; t < tokens; t++)
+        if (k[6 * t] == line && k[6 * t + 1] <= col && (best == none || k[6 * t + 1] >= k[6 * best + 1])) best = t;
+    return best;
+}
+
+static void looking(unsigned rounds) {
+    int ok = 1;
+    for (unsigned r = 0; r < rounds; r++) {
+        uint32_t table[96];
+        size_t numbers = below(97);
+        for (size_t k = 0; k < 96; k++) table[k] = below(4) ? below(5) : below(2) ? none : any();
+        uint32_t line = below(4) ? below(5) : none, col = below(4) ? below(6) : any();
+        for (place i = FIRST; i < PLACES; i++) {
+            lent a = lend(pens[0], i, table, 4 * numbers, 0);
+            pgk_answer d = pgk_lookup((uint32_t *)a.at, numbers, line, col);
+            ok &= back(a, NULL) && d.code == (numbers % 6 ? 11 : 0) && d.number == (numbers % 6 ? 0 : found(table, numbers / 6, line, col));
+        }
+    }
+    check(ok, "lookup in any table, by the rule");
+}
+
+typedef struct { const uint8_t *text; size_t len; const size_t *ends; size_t count; } names;
+
+static int sound(names n) {
+    size_t before = 0;
+    for (size_t i = 0; i < n.count; i++) { if (n.ends[i] < before || n.ends[i] > n.len) return 0; before = n.ends[i]; }
+    return 1;
+}
+static size_t start_of(names n, size_t i) { return i == 0 ? 0 : n.ends[i - 1]; }
+static int equal(names a, size_t i, names b, size_t j) {
+    size_t s = start_of(a, i), t = start_of(b, j), len = a.ends[i] - s;
+    return len == b.ends[j] - t && memcmp(a.text + s, b.text + t, len) == 0;
+}
+
+/* Composition by the rule. */
+static pgk_composed composed(const uint32_t *o, size_t on, uint32_t sources, names x, const uint32_t *in, size_t inn, names y,
+    uint32_t *res, size_t resn, uint32_t *added, size_t addn) {
+    pgk_composed c = { 0, 0, 0 };
+    c.code = sources > 1 ? 13 : on % 6 || inn % 6 ? 11 : !sound(x) || !sound(y) ? 14 : resn / 6 < on / 6 ? 7 : addn < x.count ? 8 : 0;
+    if (c.code == 8) c.number = x.count;
+    if (c.code != 0) return c;
+    for (size_t t = 0; t < on / 6; t++) {
+        const uint32_t *k = o + 6 * t;
+        uint32_t new[6] = { k[0], k[1], 0, 0, none, none };
+        uint64_t f = k[4] == none ? none : found(in, inn / 6, k[2], k[3]);
+        if (f != none && in[6 * f + 4] != none) {
+            memcpy(new + 2, in + 6 * f + 2, 16);
+            if (new[5] == none && k[5] < x.count) {
+                size_t i = 0;
+                while (i < y.count && !equal(x, k[5], y, i)) i++;
+                if (i == y.count) {
+                    size_t j = 0;
+                    while (j < c.added && !equal(x, k[5], x, added[j])) j++;
+                    if (j == c.added) { added[j] = k[5]; c.added++; }
+                    i += j;
+                }
+                new[5] = (uint32_t)i;
+            }
+        }
+        memcpy(res + 6 * t, new, 24);
+    }
+    return c;
+}
+
+static pgk_name named(names y, names x, const uint32_t *added, size_t addn, uint32_t id) {
+    pgk_name r = { 0, 0, 0, 0 };
+    if (!sound(x) || !sound(y)) return r;
+    if (id < y.count) return (pgk_name){ 1, 0, start_of(y, id), y.ends[id] };
+    size_t at = id - y.count;
+    if (at >= addn || added[at] >= x.count) return r;
+    return (pgk_name){ 1, 1, start_of(x, added[at]), x.ends[added[at]] };
+}
+
+/* A list of short names, mostly sound. */
+static names some(uint8_t *text, size_t *ends) {
+    names n = { text, below(9), ends, below(6) };
+    for (size_t i = 0; i < n.len; i++) text[i] = "ab"[below(2)];
+    size_t at = 0;
+    for (size_t i = 0; i < n.count; i++) {
+        at += below((uint32_t)(n.len - at) + 1) % 3;
+        ends[i] = below(60) ? at : below(2) ? below(12) : ~(size_t)0 - below(3);
+    }
+    return n;
+}
+
+static void composing(unsigned rounds) {
+    int ok = 1, by_name = 1;
+    unsigned seen[15] = { 0 };
+    for (unsigned r = 0; r < rounds; r++) {
+        uint8_t xt[8], yt[8];
+        size_t xe[8], ye[8];
+        names x = some(xt, xe), y = some(yt, ye);
+        uint32_t o[60], in[60], res[64], want[64], add[10], wadd[10];
+        for (size_t k = 0; k < 60; k++) {
+            uint32_t top = k % 6 < 4 ? 4 : 7;
+            o[k] = below(top); in[k] = below(top);
+            if (k % 6 > 3) { if (below(4) == 0) o[k] = none; if (below(3) == 0) in[k] = none; }
+        }
+        size_t on = below(30) ? 6 * below(10) : below(60), inn = below(30) ? 6 * below(10) : below(60);
+        size_t resn = below(10) ? on + below(5) : below(60), addn = below(10) ? x.count + below(3) : below(8);
+        if (resn > 64) resn = 64;
+        uint32_t sources = below(20) ? below(2) : any();
+        for (size_t k = 0; k < 64; k++) res[k] = want[k] = 0x5EED0000u + (uint32_t)k;
+        for (size_t k = 0; k < 10; k++) add[k] = wadd[k] = 0xADD0000u + (uint32_t)k;
+        pgk_composed w = composed(o, on, sources, x, in, inn, y, want, resn, wadd, addn);
+        seen[w.code]++;
+        for (place i = FIRST; i < PLACES; i++) {
+            uint32_t got[64], gadd[10];
+            memcpy(got, res, sizeof got); memcpy(gadd, add, sizeof gadd);
+            place wide = i == HEAP ? LAST : i;   /* ends are size_t, so aligned to eight */
+            lent a = lend(pens[0], i, o, 4 * on, 0), b = lend(pens[1], i, in, 4 * inn, 0), c = lend(pens[2], i, got, 4 * resn, 1),
+                d = lend(pens[3], i, gadd, 4 * addn, 1), e = lend(pens[4], wide, xe, 8 * x.count, 0), f = lend(pens[5], wide, ye, 8 * y.count, 0),
+                p = lend(pens[6], i, xt, x.len, 0), s = lend(pens[7], i, yt, y.len, 0);
+            pgk_composed g = pgk_compose((uint32_t *)a.at, on, sources, p.at, x.len, (size_t *)e.at, x.count,
+                (uint32_t *)b.at, inn, s.at, y.len, (size_t *)f.at, y.count, (uint32_t *)c.at, resn, (uint32_t *)d.at, addn);
+            ok &= g.code == w.code && g.number == w.number && g.added == w.added;
+            ok &= back(c, got) & back(d, gadd) & back(a, NULL) & back(b, NULL);
+            ok &= memcmp(got, want, sizeof got) == 0 && memcmp(gadd, wadd, sizeof gadd) == 0;
+            for (uint32_t q = 0; q < 16; q++) {
+                uint32_t id = q < 14 ? q : q == 14 ? none : any();
+                size_t many = w.code == 0 && below(2) ? w.added : addn;
+                lent h = lend(pens[0], i, gadd, 4 * many, 0);
+                pgk_name n = pgk_name_of(s.at, y.len, (size_t *)f.at, y.count, p.at, x.len, (size_t *)e.at, x.count, (uint32_t *)h.at, many, id);
+                pgk_name v = named(y, x, gadd, many, id);
+                by_name &= back(h, NULL) && memcmp(&n, &v, sizeof n) == 0;
+            }
+            ok &= back(e, NULL) & back(f, NULL) & back(p, NULL) & back(s, NULL);
+        }
+    }
+    check(ok, "composing, by the rule, in every placement");
+    check(by_name, "names of result ids, by the rule");
+    check(seen[0] && seen[7] && seen[8] && seen[11] && seen[13] && seen[14], "composing met codes 0, 7, 8, 11, 13, 14");
+}
+
+/* Length 0 with any aligned address: here, of pages that cannot be read. */
+static void empty(void) {
+    uint8_t *shut = mmap(NULL, PAGE, PROT_NONE, MAP_PRIVATE | MAP_ANONYMOUS, -1, 0);
+    int ok = 1;
+    for (unsigned off = 0; off < 64; off += 4) {
+        uint32_t *t = (uint32_t *)(shut + off);
+        size_t *e = (size_t *)(shut + 2 * off);
+        uint8_t *b = shut + off + 1;
+        pgk_chunk c = { 0, 0, 1, 2, 3, 4, 5, 6 };
+        ok &= same_decoded(pgk_decode(b, 0, 0, 0, t, 0), (pgk_decoded){ 0, 0, 0, 0 });
+        ok &= same_decoded(pgk_decode_lenient(b, 0, none, none, t, 0), (pgk_decoded){ 0, 0, 0, 0 });
+        ok &= same_decoded(pgk_decode_checked(b, 0, none, none, t, 0), (pgk_decoded){ 0, 0, 0, 0 });
+        pgk_encoded w = pgk_encode(t, 0, c, b, 0);
+        ok &= w.code == 0 && w.bytes == 0 && same_chunk(w.next, c);
+        ok &= pgk_translate(t, 0, none, none, none).code == 0 && pgk_translate_tokens((pgk_token *)t, 0, none, none, none).code == 0;
+        pgk_answer a = pgk_lookup(t, 0, none, none);
+        ok &= a.code == 0 && a.number == none;
+        pgk_composed g = pgk_compose(t, 0, 1, b, 0, e, 0, t, 0, b, 0, e, 0, t, 0, t, 0);
+        ok &= g.code == 0 && g.number == 0 && g.added == 0;
+        pgk_name n = pgk_name_of(b, 0, e, 0, b, 0, e, 0, t, 0, none);
+        ok &= n.found == 0 && n.outer == 0 && n.start == 0 && n.end == 0;
+    }
+    check(ok, "length 0 with any aligned address");
+    munmap(shut, PAGE);
+}
+
+/* One token too many: refused by the length alone, so pages that cannot be read do. */
+static void too_many(void) {
+    size_t tokens = 4294967295u;
+    uint32_t *t = mmap(NULL, 24 * tokens, PROT_NONE, MAP_PRIVATE | MAP_ANONYMOUS | MAP_NORESERVE, -1, 0);
+    if ((void *)t == MAP_FAILED) { printf("no address space for 4294967295 tokens: left out\n"); return; }
+    pgk_chunk c = { 0, 0, 0, 0, 0, 0, 0, 0 };
+    uint8_t byte = 0;
+    uint32_t number = 0;
+    size_t end = 0;
+    check(pgk_encode(t, 6 * tokens, c, &byte, 1).code == 11, "BadTable past 4294967294 tokens: encode");
+    check(pgk_translate(t, 6 * tokens, 0, 0, 0).code == 11, "BadTable past 4294967294 tokens: translate");
+    check(pgk_translate_tokens((pgk_token *)t, tokens, 0, 0, 0).code == 11, "BadTable past 4294967294 records");
+    check(pgk_lookup(t, 6 * tokens, 0, 0).code == 11, "BadTable past 4294967294 tokens: lookup");
+    check(pgk_compose(t, 6 * tokens, 0, &byte, 0, &end, 0, &number, 0, &byte, 0, &end, 0, &number, 0, &number, 0).code == 11, "BadTable: compose, outer");
+    check(pgk_compose(&number, 0, 0, &byte, 0, &end, 0, t, 6 * tokens, &byte, 0, &end, 0, &number, 0, &number, 0).code == 11, "BadTable: compose, inner");
+    check(pgk_compose(&number, 0, 0, &byte, 0, (size_t *)t, 2147483648u, &number, 0, &byte, 0, &end, 0, &number, 0, &number, 0).code == 14, "BadNames past 2147483647 names, outer");
+    check(pgk_compose(&number, 0, 0, &byte, 0, &end, 0, &number, 0, &byte, 0, (size_t *)t, 2147483648u, &number, 0, &number, 0).code == 14, "BadNames past 2147483647 names, inner");
+    check(pgk_name_of(&byte, 0, (size_t *)t, 2147483648u, &byte, 0, &end, 0, &number, 0, 0).found == 0, "no name in a list past 2147483647 names");
+    /* An output table has no upper limit of tokens. */
+    pgk_decoded d = pgk_decode((const uint8_t *)";;", 2, 0, 0, t, 6 * tokens);
+    check(d.code == 0 && d.tokens == 0 && d.offset == 2, "an output table of 4294967295 places");
+    munmap(t, 24 * tokens);
+}
+
+/* An output table need not be set: nothing of it is read. valgrind watches. */
+static void unset(void) {
+    uint32_t *t = malloc(4 * 13);
+    pgk_decoded d = pgk_decode((const uint8_t *)"AAEG;C,", 7, 1, 0, t, 13);
+    uint32_t sum = 0;
+    for (size_t i = 0; i < 6 * d.tokens; i++) sum += t[i];
+    check(d.code == 0 && d.tokens == 2 && sum == 0 + 2 + 3 + none + 1 + 1 + 2 + 3 + none + none, "a table that was never set");
+    free(t);
+}
+
+int main(int argc, char **argv) {
+    unsigned rounds = argc > 1 ? (unsigned)strtoul(argv[1], NULL, 10) : 1000;
+    for (int i = 0; i < 8; i++) pens[i] = new_pen();
+    worked();
+    texts(rounds);
+    writing(rounds);
+    translating(rounds);
+    looking(rounds);
+    composing(rounds);
+    empty();
+    too_many();
+    unset();
+    printf("%u passed, %u failed\n", passed, failed);
+    return failed != 0;
+}

@@ -1,0 +1,51 @@
+/* The size, alignment and field offsets of each struct of the header, a line each. */
+#include <stdio.h>
+#include <stddef.h>
+#include "peghayrick.h"
+
+#define TYPE(t) printf(#t " %zu %zu\n", sizeof(t), _Alignof(t))
+#define FIELD(t, f) printf(#t "." #f " %zu %zu\n", offsetof(t, f), sizeof(((t *)0)->f))
+
+int main(void) {
+    TYPE(pgk_token);
+    FIELD(pgk_token, dst_line);
+    FIELD(pgk_token, dst_col);
+    FIELD(pgk_token, src_line);
+    FIELD(pgk_token, src_col);
+    FIELD(pgk_token, source_id);
+    FIELD(pgk_token, name_id);
+    TYPE(pgk_chunk);
+    FIELD(pgk_chunk, start);
+    FIELD(pgk_chunk, end);
+    FIELD(pgk_chunk, prev_dst_line);
+    FIELD(pgk_chunk, prev_dst_col);
+    FIELD(pgk_chunk, prev_src_line);
+    FIELD(pgk_chunk, prev_src_col);
+    FIELD(pgk_chunk, prev_name_id);
+    FIELD(pgk_chunk, prev_source_id);
+    TYPE(pgk_answer);
+    FIELD(pgk_answer, code);
+    FIELD(pgk_answer, number);
+    TYPE(pgk_decoded);
+    FIELD(pgk_decoded, code);
+    FIELD(pgk_decoded, number);
+    FIELD(pgk_decoded, tokens);
+    FIELD(pgk_decoded, offset);
+    TYPE(pgk_encoded);
+    FIELD(pgk_encoded, code);
+    FIELD(pgk_encoded, number);
+    FIELD(pgk_encoded, bytes);
+    FIELD(pgk_encoded, next);
+    TYPE(pgk_composed);
+    FIELD(pgk_composed, code);
+    FIELD(pgk_composed, number);
+    FIELD(pgk_composed, added);
+    TYPE(pgk_name);
+    FIELD(pgk_name, found);
+    FIELD(pgk_name, outer);
+    FIELD(pgk_name, start);
+    FIELD(pgk_name, end);
+    TYPE(size_t);
+    printf("PGK_NONE %llu\n", (unsigned long long)PGK_NONE);
+    return 0;
+}

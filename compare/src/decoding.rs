@@ -143,10 +143,10 @@ impl Case for Text {
 /// Delimiters, digits that end a value (0, minus 0, 1, -1), digits that do not, and bytes outside the alphabet.
 const SYMBOLS: [&str; 10] = [",", ";", "A", "B", "C", "D", "g", "/", "!", "é"];
 
-const COUNTS: [(u32, u32); 4] = [(0, 0), (1, 0), (1, 1), (2, 2)];
+pub const COUNTS: [(u32, u32); 4] = [(0, 0), (1, 0), (1, 1), (2, 2)];
 
 /// Every text of so many symbols after a beginning, for each pair of counts.
-fn all_texts(begin: &str, symbols: usize, counts: &[(u32, u32)], go: &mut dyn FnMut(Text) -> bool) -> bool {
+pub fn all_texts(begin: &str, symbols: usize, counts: &[(u32, u32)], go: &mut dyn FnMut(Text) -> bool) -> bool {
     let mut places = vec![0; symbols];
     loop {
         let mut text = begin.as_bytes().to_vec();
@@ -178,7 +178,7 @@ fn spelled(bits: u64, places: usize, over: bool) -> Vec<u8> {
 }
 
 /// Every count of digits from 1 to 14 in every field of segments of one to six fields.
-fn digit_counts(go: &mut dyn FnMut(Text) -> bool) {
+pub fn digit_counts(go: &mut dyn FnMut(Text) -> bool) {
     let before: [&[u8]; 3] = [b"", b"gB,", b"2HCUUK,"];
     for fields in 1..=6 {
         for field in 0..fields {
@@ -211,7 +211,7 @@ fn digit_counts(go: &mut dyn FnMut(Text) -> bool) {
 }
 
 /// Sums around each limit: a running number at an edge, and a step to, just below and just past another.
-fn sums(go: &mut dyn FnMut(Text) -> bool) {
+pub fn sums(go: &mut dyn FnMut(Text) -> bool) {
     let mut steps: Vec<i128> = vec![0];
     for k in [1, 2, 4, 5, 9, 10, 30, 31, 32, 33, 34, 61] {
         for d in [-1, 0, 1] {
@@ -247,7 +247,7 @@ fn sums(go: &mut dyn FnMut(Text) -> bool) {
 }
 
 /// Patterns of 64 bits in 13 digits, the sign bit and the bit pushed out among them, in every field.
-fn patterns(random: &mut Random, cases: usize, go: &mut dyn FnMut(Text) -> bool) {
+pub fn patterns(random: &mut Random, cases: usize, go: &mut dyn FnMut(Text) -> bool) {
     for _ in 0..cases {
         let mut text = Vec::new();
         let segments = 1 + random.below(3);
@@ -357,7 +357,7 @@ fn damaged(random: &mut Random, text: &[u8]) -> Vec<u8> {
     text
 }
 
-fn long_texts(random: &mut Random, cases: usize, most: usize, go: &mut dyn FnMut(Text) -> bool) {
+pub fn long_texts(random: &mut Random, cases: usize, most: usize, go: &mut dyn FnMut(Text) -> bool) {
     for _ in 0..cases {
         let tokens = random_tokens(random, most);
         let text = text_of(random, &tokens);

@@ -88,7 +88,7 @@ impl std::fmt::Debug for Ask {
 
 impl Ask {
     /// Tokens that differ from each other: the source line is the index.
-    fn tokens(&self) -> Vec<Token> {
+    pub fn tokens(&self) -> Vec<Token> {
         let token = |(i, &(dst_line, dst_col)): (usize, &(u32, u32))| Token {
             dst_line,
             dst_col,
@@ -164,7 +164,7 @@ impl Case for Ask {
 }
 
 /// Every list of so many tokens on lines and columns 0 to 2, at every position from 0 to 3.
-fn all_lists(tokens: usize, go: &mut dyn FnMut(Ask) -> bool) {
+pub fn all_lists(tokens: usize, go: &mut dyn FnMut(Ask) -> bool) {
     for code in 0..9usize.pow(tokens as u32) {
         let mut rest = code;
         let places: Vec<(u32, u32)> = (0..tokens)
@@ -184,7 +184,7 @@ fn all_lists(tokens: usize, go: &mut dyn FnMut(Ask) -> bool) {
     }
 }
 
-fn random_lists(random: &mut Random, cases: usize, most: usize, go: &mut dyn FnMut(Ask) -> bool) {
+pub fn random_lists(random: &mut Random, cases: usize, most: usize, go: &mut dyn FnMut(Ask) -> bool) {
     for _ in 0..cases {
         let wide = random.pick(&[3, 10, 100]);
         let lines = random.pick(&[1, 3, 12]);

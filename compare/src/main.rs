@@ -9,6 +9,7 @@ mod limits;
 mod looking;
 mod model;
 mod ours;
+mod record;
 mod theirs;
 mod translating;
 mod writing;
@@ -22,13 +23,19 @@ struct Args {
     scale: usize,
     only: Option<String>,
     corpus: Option<PathBuf>,
+    record: bool,
 }
 
 fn args() -> Args {
-    let mut a = Args { seed: 1, scale: 1, only: None, corpus: None };
+    let mut a = Args { seed: 1, scale: 1, only: None, corpus: None, record: false };
     let words: Vec<String> = std::env::args().skip(1).collect();
     let mut i = 0;
     while i < words.len() {
+        if words[i] == "record" {
+            a.record = true;
+            i += 1;
+            continue;
+        }
         let value = words.get(i + 1).unwrap_or_else(|| usage());
         match words[i].as_str() {
             "--seed" => a.seed = value.parse().unwrap_or_else(|_| usage()),
@@ -43,7 +50,7 @@ fn args() -> Args {
 }
 
 fn usage() -> ! {
-    eprintln!("usage: compare [--seed N] [--scale N] [--corpus FOLDER] [--only differences|decode|write|translate|lookup|compose|limits|corpus]");
+    eprintln!("usage: compare [--seed N] [--scale N] [--corpus FOLDER] [--only differences|decode|write|translate|lookup|compose|limits|corpus] [record]");
     std::process::exit(2)
 }
 
@@ -51,6 +58,9 @@ fn main() {
     let a = args();
     // The crate's panics are answers.
     std::panic::set_hook(Box::new(|_| {}));
+    if a.record {
+        return record::run(a.seed);
+    }
     println!("seed {}, scale {}", a.seed, a.scale);
     for (here, name) in [(ours::writer::HERE, "pgk_encode"), (ours::composer::HERE, "pgk_compose")] {
         if !here {

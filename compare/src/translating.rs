@@ -129,7 +129,7 @@ impl Move {
 }
 
 /// Each number of one token, and each offset, at each edge.
-fn edges(go: &mut dyn FnMut(Move) -> bool) {
+pub fn edges(go: &mut dyn FnMut(Move) -> bool) {
     let few = [0, 1, 0x8000_0000, 0xffff_fffd, 0xffff_fffe, 0xffff_ffff];
     for line in few {
         for dst_line in few {
@@ -149,7 +149,7 @@ fn edges(go: &mut dyn FnMut(Move) -> bool) {
     }
 }
 
-fn lists(random: &mut Random, cases: usize, most: usize, go: &mut dyn FnMut(Move) -> bool) {
+pub fn lists(random: &mut Random, cases: usize, most: usize, go: &mut dyn FnMut(Move) -> bool) {
     for _ in 0..cases {
         let mut tokens = random_tokens(random, most);
         if random.one_in(2) {

@@ -313,7 +313,7 @@ fn edges(random: &mut Random, cases: usize, go: &mut dyn FnMut(Write) -> bool) {
     }
 }
 
-fn chunks(random: &mut Random, cases: usize, most: usize, go: &mut dyn FnMut(Write) -> bool) {
+pub fn chunks(random: &mut Random, cases: usize, most: usize, go: &mut dyn FnMut(Write) -> bool) {
     for _ in 0..cases {
         let mut tokens = random_tokens(random, most);
         if random.one_in(8) && !tokens.is_empty() {
@@ -350,7 +350,7 @@ fn chunks(random: &mut Random, cases: usize, most: usize, go: &mut dyn FnMut(Wri
 }
 
 /// Lists of up to three tokens over few numbers: every choice of them.
-fn small_lists(go: &mut dyn FnMut(Write) -> bool) {
+pub fn small_lists(go: &mut dyn FnMut(Write) -> bool) {
     let kinds: Vec<Token> = (0..24)
         .map(|k: u32| Token {
             dst_line: k % 2,

@@ -1,0 +1,345 @@
+//! Records a sample of the crate's answers, for the program crates/replay_answers to run without the crate.
+//!
+//! The program's input is made of blocks of 4,096 bytes, filled up with newlines; no record lies across two. A record is two
+//! lines: a letter and numbers (a dash for 4,294,967,295), then a text or more numbers. A line `# NAME` begins a group.
+
+use std::collections::HashMap;
+use std::fs;
+use std::path::Path;
+
+use crate::cases::{Case, EDGES, Random};
+use crate::decoding::{self, Text};
+use crate::looking::{self, Ask};
+use crate::model::{NONE, Token, TokenChunk, is_delimiter, table_of};
+use crate::theirs::{BUILDS, RELEASE};
+use crate::translating::Move;
+use crate::writing::{self, Write};
+
+const BLOCK: usize = 4096;
+
+/// The numbers and bytes that the replay crates have room for.
+const NUMBERS: usize = 400;
+const BYTES: usize = 3000;
+
+#[derive(Default)]
+struct File {
+    bytes: Vec<u8>,
+    groups: Vec<(String, usize)>,
+    last: Vec<u8>,
+}
+
+impl File {
+    /// Puts lines into the block that is begun, or into the next.
+    fn put(&mut self, lines: &[u8]) {
+        let used = self.bytes.len() % BLOCK;
+        if used + lines.len() > BLOCK {
+            self.bytes.resize(self.bytes.len() + BLOCK - used, b'\n');
+        }
+        self.bytes.extend(lines);
+    }
+
+    fn group(&mut self, name: &str) {
+        self.groups.push((name.to_string(), 0));
+        self.put(format!("# {name}\n").as_bytes());
+    }
+
+    fn record(&mut self, kind: char, numbers: &[u32], second: &[u8]) {
+        let shown: Vec<String> = numbers.iter().map(|&n| if n == NONE { "-".to_string() } else { n.to_string() }).collect();
+        let mut lines = format!("{kind} {}\n", shown.join(" ")).into_bytes();
+        lines.extend(second);
+        lines.push(b'\n');
+        if numbers.len() > NUMBERS || second.len() > BYTES || lines.len() > BLOCK || second.contains(&b'\n') || lines == self.last {
+            return;
+        }
+        self.last.clone_from(&lines);
+        self.put(&lines);
+        self.groups.last_mut().expect("a group").1 += 1;
+    }
+
+    fn write(&self, folder: &Path) {
+        let out: String = self.groups.iter().map(|(name, count)| format!("# {name}: {count} of {count} agree\n")).collect();
+        let put = |name: &str, bytes: &[u8]| fs::write(folder.join(name), bytes).expect("a file of the replay was not written");
+        put("stdin", &self.bytes);
+        put("stdout", out.as_bytes());
+        let count: usize = self.groups.iter().map(|g| g.1).sum();
+        println!("{}: {count} records, {} bytes", folder.display(), self.bytes.len());
+    }
+}
+
+fn numbers_text(numbers: &[u32]) -> String {
+    numbers.iter().map(|&n| if n == NONE { "-".to_string() } else { n.to_string() }).collect::<Vec<_>>().join(" ")
+}
+
+// ---------------------------------------------------------------- decoding
+
+struct Decoded {
+    code: u64,
+    number: u64,
+    offset: usize,
+    tokens: Vec<Token>,
+}
+
+/// The crate's answer; where it refuses, the offset is that of the first segment whose end it does not pass.
+fn decoded(case: &Text) -> Option<Decoded> {
+    let text = std::str::from_utf8(&case.text).ok()?;
+    let run = |build: usize, text: &str| (BUILDS[build].decode)(text, case.sources, case.names).expect("decoding panicked");
+    let answer = run(0, text);
+    assert!(answer == run(1, text), "the builds differ on {}", case.show());
+    let refused = match answer {
+        Ok(tokens) => return Some(Decoded { code: 0, number: 0, offset: text.len(), tokens }),
+        Err(a) => a,
+    };
+    let bytes = text.as_bytes();
+    let starts = (0..bytes.len()).filter(|&i| !is_delimiter(bytes[i]) && (i == 0 || is_delimiter(bytes[i - 1])));
+    for start in starts {
+        let end = (start..bytes.len()).find(|&i| is_delimiter(bytes[i])).unwrap_or(bytes.len());
+        if run(1, &text[..end]).is_err() {
+            let tokens = run(1, &text[..start]).expect("the text before the refused segment");
+            return Some(Decoded { code: refused.code, number: refused.number, offset: start, tokens });
+        }
+    }
+    unreachable!("no segment is refused in {}", case.show())
+}
+
+fn put_text(file: &mut File, case: &Text) {
+    if let Some(d) = decoded(case) {
+        let mut numbers = vec![case.sources, case.names, d.code as u32, d.number as u32, d.offset as u32];
+        numbers.extend(table_of(&d.tokens));
+        file.record('d', &numbers, &case.text);
+    }
+}
+
+/// What tells two short texts apart: the answer, how many tokens, how long, and the kinds of the refused segment's bytes.
+fn kind_of(case: &Text, d: &Decoded) -> (u64, u64, usize, usize, Vec<u8>) {
+    let segment = case.text[d.offset..].iter().take_while(|&&b| !is_delimiter(b));
+    let kinds = segment.map(|&b| match b {
+        b'A'..=b'f' => 0,
+        b'g'..=b'z' | b'0'..=b'9' | b'+' | b'/' => 1,
+        _ => 2,
+    });
+    (d.code, d.number, d.tokens.len(), case.text.len(), kinds.collect())
+}
+
+fn decode(file: &mut File, seed: u64) {
+    file.group("decode: worked texts");
+    for (text, _, _) in decoding::worked() {
+        put_text(file, &text);
+    }
+
+    // Of all texts of up to four symbols, two of each kind.
+    file.group("decode: short texts");
+    let mut seen: HashMap<_, u32> = HashMap::new();
+    for symbols in 0..=4 {
+        decoding::all_texts("", symbols, &decoding::COUNTS, &mut |case| {
+            if let Some(d) = decoded(&case) {
+                let times = seen.entry(kind_of(&case, &d)).or_insert(0);
+                *times += 1;
+                if *times <= 2 {
+                    put_text(file, &case);
+                }
+            }
+            true
+        });
+    }
+
+    // Four and five fields of one digit, and what may stand behind them.
+    file.group("decode: one digit a field");
+    for fields in 3..=7 {
+        for field in 0..fields.min(6) {
+            for digit in [b'A', b'B', b'C', b'D', b'e', b'f', b'g'] {
+                for behind in ["", ",", ";", "A", ",A", ";C"] {
+                    let mut text = vec![b'A'; fields];
+                    text[field] = digit;
+                    text.extend(behind.bytes());
+                    if behind.len() < 2 || digit == b'C' {
+                        put_text(file, &Text { text, sources: 2, names: 2 });
+                    }
+                }
+            }
+        }
+    }
+
+    // Of all the cases with counts of digits, one for each count of fields, field, count of digits and answer.
+    file.group("decode: counts of digits");
+    let mut seen = HashMap::new();
+    decoding::digit_counts(&mut |case| {
+        if let Some(d) = decoded(&case) {
+            let key = (case.text.len(), d.code, d.number == 0, d.tokens.len(), case.text.iter().take(30).map(|&b| b == b'A').collect::<Vec<_>>());
+            if seen.insert(key, ()).is_none() {
+                put_text(file, &case);
+            }
+        }
+        true
+    });
+
+    let mut random = Random::new(seed, "recorded texts");
+    file.group("decode: sums at the limits");
+    decoding::sums(&mut |case| {
+        if random.one_in(60) {
+            put_text(file, &case);
+        }
+        true
+    });
+    file.group("decode: 64-bit patterns");
+    decoding::patterns(&mut random, 400, &mut |case| {
+        put_text(file, &case);
+        true
+    });
+    file.group("decode: lists and damaged copies");
+    decoding::long_texts(&mut random, 80, 8, &mut |case| {
+        put_text(file, &case);
+        true
+    });
+    decoding::long_texts(&mut random, 8, 60, &mut |case| {
+        put_text(file, &case);
+        true
+    });
+}
+
+// ---------------------------------------------------------------- writing
+
+fn chunk_numbers(c: TokenChunk) -> [u32; 8] {
+    [c.start, c.end, c.prev_dst_line, c.prev_dst_col, c.prev_src_line, c.prev_src_col, c.prev_name_id, c.prev_source_id]
+}
+
+/// A chunk inside the domain, the crate's bytes, and the state that the crate goes on from (held to it by the case itself).
+fn put_chunk(file: &mut File, case: &Write) {
+    let m = crate::model::encode(&case.table, case.chunk, BYTES);
+    if m.answer.code != 0 {
+        return;
+    }
+    case.check().expect("a recorded chunk");
+    let tokens = crate::model::tokens_of(&case.table);
+    let text = (RELEASE.encode)(&tokens, case.chunk).expect("the crate writes it");
+    let mut numbers = chunk_numbers(case.chunk).to_vec();
+    numbers.extend(chunk_numbers(m.next));
+    numbers.extend(&case.table);
+    file.record('w', &numbers, &text);
+}
+
+fn encode(file: &mut File, seed: u64) {
+    let mut random = Random::new(seed, "recorded chunks");
+    file.group("encode: small lists");
+    writing::small_lists(&mut |case| {
+        if case.table.len() < 12 || random.one_in(15) {
+            put_chunk(file, &case);
+        }
+        true
+    });
+    file.group("encode: one number at an edge");
+    for field in 0..6 {
+        for edge in EDGES {
+            for before in [0, 1, 1 << 31, NONE - 1, NONE] {
+                let mut numbers = [0, 0, 0, 0, 0, 0];
+                numbers[field] = edge;
+                let chunk = TokenChunk {
+                    start: 0,
+                    end: 1,
+                    prev_dst_line: if field == 0 { edge.saturating_sub(before % 7) } else { 0 },
+                    prev_dst_col: before,
+                    prev_src_line: before,
+                    prev_src_col: before,
+                    prev_name_id: before,
+                    prev_source_id: before,
+                };
+                put_chunk(file, &Write { table: numbers.to_vec(), chunk });
+            }
+        }
+    }
+    file.group("encode: pieces, each from the state before it");
+    for _ in 0..60 {
+        let tokens = decoding::random_tokens(&mut random, 12);
+        let mut chunk = TokenChunk::default();
+        loop {
+            chunk.end = (chunk.start as usize + random.below(4)).min(tokens.len()) as u32;
+            let case = Write { table: table_of(&tokens), chunk };
+            put_chunk(file, &case);
+            chunk = crate::model::encode(&case.table, chunk, BYTES).next;
+            if chunk.start as usize == tokens.len() || random.one_in(12) {
+                break;
+            }
+        }
+    }
+    file.group("encode: long lists");
+    writing::chunks(&mut random, 40, 60, &mut |case| {
+        put_chunk(file, &case);
+        true
+    });
+}
+
+// ---------------------------------------------------------------- translating and lookup
+
+fn put_move(file: &mut File, case: &Move) {
+    let tokens = crate::model::tokens_of(&case.table);
+    if case.table.len() % 6 != 0 || crate::model::translate(&tokens, case.line, case.source, case.name).is_err() {
+        return;
+    }
+    let moved = (RELEASE.translate)(&tokens, case.line, case.source, case.name).expect("the crate translates it");
+    let mut numbers = vec![case.line, case.source, case.name];
+    numbers.extend(&case.table);
+    file.record('t', &numbers, numbers_text(&table_of(&moved)).as_bytes());
+}
+
+fn translate(file: &mut File, seed: u64) {
+    let mut random = Random::new(seed, "recorded moves");
+    file.group("translate: one token at the edges");
+    crate::translating::edges(&mut |case| {
+        if random.one_in(20) {
+            put_move(file, &case);
+        }
+        true
+    });
+    file.group("translate: lists");
+    crate::translating::lists(&mut random, 500, 8, &mut |case| {
+        put_move(file, &case);
+        true
+    });
+    crate::translating::lists(&mut random, 10, 60, &mut |case| {
+        put_move(file, &case);
+        true
+    });
+}
+
+/// Where the crate's lookup has no way to differ from document 01's.
+fn put_ask(file: &mut File, case: &Ask) {
+    let tokens = case.tokens();
+    if tokens.iter().any(|t| t.dst_line > looking::LINES) || looking::class_of(&tokens, case.line, case.col).is_some() {
+        return;
+    }
+    let found = (RELEASE.look)(&tokens, &[(case.line, case.col)]).expect("the crate looks it up")[0].0;
+    let mut numbers = vec![case.line, case.col, found.map_or(NONE, |t| t.src_line)];
+    numbers.extend(table_of(&tokens));
+    file.record('l', &numbers, b"");
+}
+
+fn lookup(file: &mut File, seed: u64) {
+    let mut random = Random::new(seed, "recorded asks");
+    file.group("lookup: small lists");
+    for tokens in 0..=3 {
+        looking::all_lists(tokens, &mut |case| {
+            if tokens < 2 || random.one_in(15) {
+                put_ask(file, &case);
+            }
+            true
+        });
+    }
+    file.group("lookup: lists");
+    looking::random_lists(&mut random, 400, 12, &mut |case| {
+        put_ask(file, &case);
+        true
+    });
+    looking::random_lists(&mut random, 20, 60, &mut |case| {
+        put_ask(file, &case);
+        true
+    });
+}
+
+/// Writes stdin and stdout of crates/replay_answers.
+pub fn run(seed: u64) {
+    let mut file = File::default();
+    decode(&mut file, seed);
+    encode(&mut file, seed);
+    translate(&mut file, seed);
+    lookup(&mut file, seed);
+    file.write(&Path::new("crates").join("replay_answers"));
+}

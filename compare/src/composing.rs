@@ -98,7 +98,7 @@ impl Pair {
             let got = composer::name_of(&self.inner_names, &self.outer_names, added, id);
             let m = model::name_of(&self.inner_names, &self.outer_names, added, id);
             let fits = match m {
-                None => got.found == 0 && got.start == got.end,
+                None => got == NameOf { found: 0, outer: 0, start: 0, end: 0 },
                 Some((outer, start, end)) => {
                     got == NameOf { found: 1, outer: u64::from(outer), start: start as u64, end: end as u64 }
                 }

@@ -5,7 +5,7 @@ use std::collections::HashMap;
 
 use crate::cases::{Case, Class, Random, Tally, met_code};
 use crate::looking::{self, LINES};
-use crate::model::{self, Inner, NONE, NameOf, Names, Outer, Token, table_of, tokens_of};
+use crate::model::{self, Composed, Inner, NONE, NameOf, Names, Outer, Token, table_of, tokens_of};
 use crate::ours::{Lent, composer};
 use crate::theirs::{BUILDS, Build};
 
@@ -58,11 +58,15 @@ impl Pair {
         Inner { table: &self.inner, names: &self.inner_names }
     }
 
+    pub fn model(&self) -> Composed {
+        model::compose(&self.outer(), &self.inner(), self.result, self.added)
+    }
+
     fn ours_agrees(&self) -> Result<(), String> {
         if !composer::HERE {
             return Ok(());
         }
-        let m = model::compose(&self.outer(), &self.inner(), self.result, self.added);
+        let m = self.model();
         let mut result = Lent::new(self.result);
         let mut added = Lent::new(self.added);
         let got = composer::compose(
@@ -132,7 +136,7 @@ impl Pair {
         Ok(theirs)
     }
 
-    fn crate_takes(&self) -> bool {
+    pub fn crate_takes(&self) -> bool {
         let utf8 = |n: &Names| n.sound() && (0..n.count()).all(|i| std::str::from_utf8(n.name(i)).is_ok());
         self.outer.len() % 6 == 0
             && self.inner.len() % 6 == 0
@@ -245,7 +249,7 @@ fn random_id(random: &mut Random, count: usize) -> u32 {
     }
 }
 
-fn pairs(random: &mut Random, cases: usize, most: usize, go: &mut dyn FnMut(Pair) -> bool) {
+pub fn pairs(random: &mut Random, cases: usize, most: usize, go: &mut dyn FnMut(Pair) -> bool) {
     for _ in 0..cases {
         let lines = random.pick(&[1, 2, 5]);
         let wide = random.pick(&[2, 4, 30]);
@@ -309,7 +313,7 @@ fn pairs(random: &mut Random, cases: usize, most: usize, go: &mut dyn FnMut(Pair
 }
 
 /// One outer token over every list of up to three inner tokens on lines 0 and 1 and columns 0 to 2.
-fn small(go: &mut dyn FnMut(Pair) -> bool) {
+pub fn small(go: &mut dyn FnMut(Pair) -> bool) {
     let kinds = 2 * 3 * 3;
     let outer_names = names_of(&[b"a", b"b"], b"");
     let inner_names = names_of(&[b"b"], b"");

@@ -8,9 +8,10 @@ use std::fs;
 use std::path::Path;
 
 use crate::cases::{Case, EDGES, Random};
+use crate::composing::{self, Pair};
 use crate::decoding::{self, Text};
 use crate::looking::{self, Ask};
-use crate::model::{NONE, Token, TokenChunk, is_delimiter, table_of};
+use crate::model::{NONE, Names, Token, TokenChunk, is_delimiter, table_of, tokens_of};
 use crate::theirs::{BUILDS, RELEASE};
 use crate::translating::Move;
 use crate::writing::{self, Write};
@@ -20,6 +21,7 @@ const BLOCK: usize = 4096;
 /// The numbers and bytes that the replay crates have room for.
 const NUMBERS: usize = 400;
 const BYTES: usize = 3000;
+const ENDS: usize = 32;
 
 #[derive(Default)]
 struct File {
@@ -209,7 +211,7 @@ fn put_chunk(file: &mut File, case: &Write) {
         return;
     }
     case.check().expect("a recorded chunk");
-    let tokens = crate::model::tokens_of(&case.table);
+    let tokens = tokens_of(&case.table);
     let text = (RELEASE.encode)(&tokens, case.chunk).expect("the crate writes it");
     let mut numbers = chunk_numbers(case.chunk).to_vec();
     numbers.extend(chunk_numbers(m.next));
@@ -270,7 +272,7 @@ fn encode(file: &mut File, seed: u64) {
 // ---------------------------------------------------------------- translating and lookup
 
 fn put_move(file: &mut File, case: &Move) {
-    let tokens = crate::model::tokens_of(&case.table);
+    let tokens = tokens_of(&case.table);
     if case.table.len() % 6 != 0 || crate::model::translate(&tokens, case.line, case.source, case.name).is_err() {
         return;
     }
@@ -334,6 +336,68 @@ fn lookup(file: &mut File, seed: u64) {
     });
 }
 
+// ---------------------------------------------------------------- composing
+
+/// Where the crate's lookup has no way to differ from document 01's, so that its composing is ours.
+fn put_pair(file: &mut File, case: &Pair) {
+    let takes = case.crate_takes()
+        && case.sources <= 1
+        && case.result >= case.outer.len()
+        && case.added >= case.outer_names.count()
+        && case.outer_names.count().max(case.inner_names.count()) <= ENDS;
+    let (outer, inner) = (tokens_of(&case.outer), tokens_of(&case.inner));
+    let differs = |t: &Token| t.source_id != NONE && looking::class_of(&inner, t.src_line, t.src_col).is_some();
+    if !takes || outer.iter().any(differs) {
+        return;
+    }
+    let made = (RELEASE.compose)(&outer, case.sources as usize, &case.outer_names, &inner, &case.inner_names);
+    let Some((tokens, names)) = made else { return };
+    // The crate adds names and no ids: the ids are the model's, and name what the crate added.
+    let count = case.inner_names.count();
+    let m = case.model();
+    assert!(m.tokens == tokens, "the model differs on {case:?}");
+    let added = m.added;
+    assert!(names[count..].iter().zip(&added).all(|(name, &id)| name == case.outer_names.name(id as usize)));
+    assert!(names.len() == count + added.len());
+    let end = |names: &Names| names.ends.last().copied().unwrap_or(0);
+    let mut numbers = vec![
+        case.sources,
+        case.outer.len() as u32,
+        case.inner.len() as u32,
+        case.outer_names.count() as u32,
+        count as u32,
+        end(&case.outer_names) as u32,
+    ];
+    numbers.extend(&case.outer);
+    numbers.extend(&case.inner);
+    numbers.extend(table_of(&tokens));
+    numbers.extend(case.outer_names.ends.iter().chain(&case.inner_names.ends).map(|&e| e as u32));
+    numbers.extend(added);
+    let text = [&case.outer_names.text[..end(&case.outer_names)], &case.inner_names.text[..]].concat();
+    file.record('c', &numbers, &text);
+}
+
+fn compose(file: &mut File, seed: u64) {
+    let mut random = Random::new(seed, "recorded pairs");
+    file.group("compose: small inner lists");
+    let mut few = Random::new(seed, "recorded small pairs");
+    composing::small(&mut |case| {
+        if few.one_in(60) {
+            put_pair(file, &case);
+        }
+        true
+    });
+    file.group("compose: lists");
+    composing::pairs(&mut random, 600, 6, &mut |case| {
+        put_pair(file, &case);
+        true
+    });
+    composing::pairs(&mut random, 100, 18, &mut |case| {
+        put_pair(file, &case);
+        true
+    });
+}
+
 /// Writes stdin and stdout of crates/replay_answers.
 pub fn run(seed: u64) {
     let mut file = File::default();
@@ -341,5 +405,6 @@ pub fn run(seed: u64) {
     encode(&mut file, seed);
     translate(&mut file, seed);
     lookup(&mut file, seed);
+    compose(&mut file, seed);
     file.write(&Path::new("crates").join("replay_answers"));
 }

@@ -18,6 +18,7 @@ fn agrees(kind: u8, numbers: &mut [u32], text: &[u8]) -> bool {
         b'w' => replay_encode::write_agrees(numbers, text),
         b't' => replay_translate::translate_agrees(numbers, text),
         b'l' => replay_translate::lookup_agrees(numbers),
+        b'c' => replay_compose::compose_agrees(numbers, text),
         _ => false,
     }
 }

@@ -53,7 +53,14 @@ fn answered<const N: usize>(f: impl FnOnce(*mut Words<N>)) -> Words<N> {
 macro_rules! decode {
     ($name:ident, $raw:ident) => {
         #[unsafe(no_mangle)]
-        pub unsafe extern "C" fn $name(text: *const u8, n: usize, sources: u32, names: u32, table: *const u8, k: usize) -> Words<4> {
+        pub unsafe extern "C" fn $name(
+            text: *const u8,
+            n: usize,
+            sources: u32,
+            names: u32,
+            table: *const u8,
+            k: usize,
+        ) -> Words<4> {
             answered(|r| unsafe { $raw(r, &fat((text, n)), sources, names, &fat((table, k))) })
         }
     };

@@ -108,6 +108,8 @@ pub struct Tally {
     groups: Vec<(String, u64, u64, f64)>,
     met: BTreeMap<Class, Met>,
     failures: Vec<(String, u64, Failure)>,
+    /// Whether to end at the first group that fails.
+    pub stop: bool,
 }
 
 /// After so many failures a group stops.
@@ -175,6 +177,10 @@ impl Tally {
 
     fn line(&self, name: &str, count: u64, failed: u64, seconds: f64) {
         println!("{name:<60} {count:>10} {failed:>4} failed {seconds:>8.1} s");
+        if self.stop && failed > 0 {
+            self.summary(false);
+            std::process::exit(1);
+        }
     }
 
     /// Prints the summary, and says whether all agreed. A run of everything meets every code that a part has.

@@ -89,8 +89,10 @@ impl Pair {
             return Err(format!("ours adds {:?}, the model {:?}", added.numbers(), m.added));
         }
         met_code("compose", m.answer.code);
-        // The added list as it was lent: its places past the count hold the pattern.
-        for list in [&m.added[..], added.numbers(), &[]] {
+        // The added list as it was lent, whose places past the count hold the pattern; none; and ids on either side of the count.
+        let count = self.outer_names.count() as u32;
+        let around = [count, count.saturating_sub(1), count + 1, 0, NONE];
+        for list in [&m.added[..], added.numbers(), &[], &around] {
             self.names_agree(list)?;
         }
         Ok(())

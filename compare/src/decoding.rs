@@ -56,7 +56,10 @@ impl Text {
         let before = (RELEASE.decode)(&text[..m.offset], self.sources, self.names);
         let whole = (RELEASE.decode)(&text[..end], self.sources, self.names);
         if !begins || before != Some(Ok(m.tokens.clone())) || whole != Some(Err(m.answer)) {
-            return Err(format!("cut at {}: before it {before:?}, to the segment's end {whole:?}; the model says {m:?}", m.offset));
+            return Err(format!(
+                "cut at {}: before it {before:?}, to the segment's end {whole:?}; the model says {m:?}",
+                m.offset
+            ));
         }
         Ok(())
     }
@@ -71,7 +74,11 @@ impl Text {
             return Err(format!("{entry:?}, {numbers} numbers lent: ours {:?}, the model {want:?}", (a, tokens, offset)));
         }
         if !table.is(&table_of(&m.tokens)) {
-            return Err(format!("{entry:?}, {numbers} numbers lent: the table holds {:?}, the model has {:?}", table.numbers(), m.tokens));
+            return Err(format!(
+                "{entry:?}, {numbers} numbers lent: the table holds {:?}, the model has {:?}",
+                table.numbers(),
+                m.tokens
+            ));
         }
         met_code(if entry == Entry::Checked { "decode, checked" } else { "decode, lenient" }, a.code);
         Ok(m)
@@ -95,7 +102,10 @@ impl Case for Text {
                     let text = utf8(&self.text);
                     let before = (RELEASE.decode)(&text[..full.offset], self.sources, self.names);
                     if before != Some(Ok(full.tokens.clone())) {
-                        return Err(format!("full at {}: the crate has {before:?} before it, the model {:?}", full.offset, full.tokens));
+                        return Err(format!(
+                            "full at {}: the crate has {before:?} before it, the model {:?}",
+                            full.offset, full.tokens
+                        ));
                     }
                 }
                 self.ours_agrees(entry, odd)?;
@@ -227,7 +237,8 @@ pub fn sums(go: &mut dyn FnMut(Text) -> bool) {
     for field in 0..5usize {
         for from in EDGES {
             for &step in &all {
-                for (sources, names) in [(u32::MAX, u32::MAX), (1, 1), (u32::MAX, 2), (3, u32::MAX), (u32::MAX - 1, u32::MAX - 1)] {
+                for (sources, names) in [(u32::MAX, u32::MAX), (1, 1), (u32::MAX, 2), (3, u32::MAX), (u32::MAX - 1, u32::MAX - 1)]
+                {
                     let mut text = Vec::new();
                     for (f, v) in [(field, i128::from(from)), (field, step)] {
                         for g in 0..if field == 4 { 5 } else { 4 } {
@@ -391,7 +402,13 @@ fn any_bytes(random: &mut Random, cases: usize, go: &mut dyn FnMut(Text) -> bool
             .map(|_| match kind {
                 0 => random.next() as u8,
                 1 => random.pick(&[b',', b';', b'A', b'C', b'g', 0x80, 0xff, b'-', b'_', b'=', b' ', b'\n', 0]),
-                _ => if random.one_in(6) { random.next() as u8 } else { random.pick(b"AAAACDEF,,;;") },
+                _ => {
+                    if random.one_in(6) {
+                        random.next() as u8
+                    } else {
+                        random.pick(b"AAAACDEF,,;;")
+                    }
+                }
             })
             .collect();
         if !go(Text { text, sources: random.below(4) as u32, names: random.below(4) as u32 }) {
@@ -452,6 +469,29 @@ impl Case for Row {
     }
 }
 
+/// Every byte, alone, before and behind a digit, and in each field of one digit.
+fn every_byte(go: &mut dyn FnMut(Text) -> bool) {
+    for byte in 0..=255u8 {
+        let mut texts =
+            vec![vec![byte], vec![byte, b'A'], vec![byte, b'C', b',', b'A'], vec![b'g', byte], vec![b'g', byte, b'C']];
+        for fields in 4..=6 {
+            for field in 0..fields {
+                for behind in [&b""[..], b",A", b";AAAAA,A"] {
+                    let mut text = vec![b'A'; fields];
+                    text[field] = byte;
+                    text.extend(behind);
+                    texts.push(text);
+                }
+            }
+        }
+        for text in texts {
+            if !go(Text { text, sources: 2, names: 2 }) {
+                return;
+            }
+        }
+    }
+}
+
 /// A text longer than any list of tokens should be: field counts past the few, and 2^16 lines.
 fn odd_ones(go: &mut dyn FnMut(Text) -> bool) {
     for fields in [6, 7, 255, 256, 257, 65535, 65536, 65537] {
@@ -488,11 +528,13 @@ pub fn run(tally: &mut Tally, seed: u64, scale: usize) {
             }
         });
     }
+    tally.group("decode: every byte", every_byte);
     tally.group("decode: every count of digits", digit_counts);
     tally.group("decode: sums around the limits", sums);
     tally.group("decode: 64-bit patterns", |go| patterns(&mut Random::new(seed, "patterns"), 200_000 * scale, go));
     tally.group("decode: random bytes", |go| any_bytes(&mut Random::new(seed, "bytes"), 400_000 * scale, go));
-    tally.group("decode: short lists and damaged copies", |go| long_texts(&mut Random::new(seed, "short"), 60_000 * scale, 8, go));
+    tally
+        .group("decode: short lists and damaged copies", |go| long_texts(&mut Random::new(seed, "short"), 60_000 * scale, 8, go));
     tally.group("decode: long lists and damaged copies", |go| long_texts(&mut Random::new(seed, "long"), 300 * scale, 2000, go));
     tally.group("decode: many fields, many lines", odd_ones);
 }

@@ -40,7 +40,11 @@ fn decoding(build: &Build) -> Result<(), String> {
         ("ggggggE", 0, &[at(0, 1 << 31)]),
         (long, 0, &[at(0, 0)]),
         (",", 0, none),
-        ("AAEG,C", 1, &[Token { src_line: 2, src_col: 3, source_id: 0, ..at(0, 0) }, Token { src_line: 2, src_col: 3, ..at(0, 1) }]),
+        (
+            "AAEG,C",
+            1,
+            &[Token { src_line: 2, src_col: 3, source_id: 0, ..at(0, 0) }, Token { src_line: 2, src_col: 3, ..at(0, 1) }],
+        ),
     ] {
         same(text, (build.decode)(text, sources, 0), Some(Ok(tokens.to_vec())))?;
         let mut table = Lent::new(12);
@@ -105,8 +109,7 @@ fn looking(build: &Build) -> Result<(), String> {
     ];
     for (i, (places, asked, index, theirs)) in rows.into_iter().enumerate() {
         // The source line tells the tokens apart.
-        let tokens: Vec<Token> =
-            places.iter().enumerate().map(|(i, &(l, c))| Token { src_line: i as u32, ..at(l, c) }).collect();
+        let tokens: Vec<Token> = places.iter().enumerate().map(|(i, &(l, c))| Token { src_line: i as u32, ..at(l, c) }).collect();
         same("ours", ours::lookup(&table_of(&tokens), asked.0, asked.1), answer(model::DONE, index))?;
         let looked = (build.look)(&tokens, &[asked]).map(|l| l[0]);
         same("the crate's", looked.and_then(|l| l.0).map(|t| t.src_line), theirs)?;

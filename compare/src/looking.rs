@@ -132,7 +132,11 @@ impl Case for Ask {
                     let run = &tokens[last];
                     let sorted = run.windows(2).all(|w| w[0].dst_col <= w[1].dst_col);
                     if sorted && *looked != foreseen(run, self.col) {
-                        return Err(format!("the {} crate gives {looked:?}, foreseen was {:?}", build.name, foreseen(run, self.col)));
+                        return Err(format!(
+                            "the {} crate gives {looked:?}, foreseen was {:?}",
+                            build.name,
+                            foreseen(run, self.col)
+                        ));
                     }
                 }
                 _ => return Err(format!("the {} crate gives {theirs:?}", build.name)),

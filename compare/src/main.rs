@@ -5,6 +5,7 @@ mod composing;
 mod corpus;
 mod decoding;
 mod differences;
+mod far;
 mod limits;
 mod looking;
 mod model;
@@ -24,33 +25,32 @@ struct Args {
     only: Option<String>,
     corpus: Option<PathBuf>,
     record: bool,
+    stop: bool,
 }
 
 fn args() -> Args {
-    let mut a = Args { seed: 1, scale: 1, only: None, corpus: None, record: false };
-    let words: Vec<String> = std::env::args().skip(1).collect();
-    let mut i = 0;
-    while i < words.len() {
-        if words[i] == "record" {
-            a.record = true;
-            i += 1;
-            continue;
-        }
-        let value = words.get(i + 1).unwrap_or_else(|| usage());
-        match words[i].as_str() {
-            "--seed" => a.seed = value.parse().unwrap_or_else(|_| usage()),
-            "--scale" => a.scale = value.parse().unwrap_or_else(|_| usage()),
-            "--corpus" => a.corpus = Some(value.into()),
-            "--only" => a.only = Some(value.clone()),
+    let mut a = Args { seed: 1, scale: 1, only: None, corpus: None, record: false, stop: false };
+    let mut words = std::env::args().skip(1);
+    while let Some(word) = words.next() {
+        let mut value = || words.next().unwrap_or_else(|| usage());
+        match word.as_str() {
+            "record" => a.record = true,
+            "--stop" => a.stop = true,
+            "--seed" => a.seed = value().parse().unwrap_or_else(|_| usage()),
+            "--scale" => a.scale = value().parse().unwrap_or_else(|_| usage()),
+            "--corpus" => a.corpus = Some(value().into()),
+            "--only" => a.only = Some(value()),
             _ => usage(),
         }
-        i += 2;
     }
     a
 }
 
 fn usage() -> ! {
-    eprintln!("usage: compare [--seed N] [--scale N] [--corpus FOLDER] [--only differences|decode|write|translate|lookup|compose|limits|corpus] [record]");
+    eprintln!(
+        "usage: compare [--seed N] [--scale N] [--stop] [--corpus FOLDER] [record]
+               [--only differences|translate|lookup|compose|write|decode|limits|corpus|far]"
+    );
     std::process::exit(2)
 }
 
@@ -68,19 +68,23 @@ fn main() {
         }
     }
     let mut tally = Tally::default();
+    tally.stop = a.stop;
     let parts: [(&str, fn(&mut Tally, u64, usize)); 6] = [
         ("differences", differences::run),
-        ("decode", decoding::run),
-        ("write", writing::run),
         ("translate", translating::run),
         ("lookup", looking::run),
         ("compose", composing::run),
+        ("write", writing::run),
+        ("decode", decoding::run),
     ];
     let wanted = |name: &str| a.only.as_deref().is_none_or(|o| o == name);
     for (name, part) in parts {
         if wanted(name) {
             part(&mut tally, a.seed, a.scale);
         }
+    }
+    if a.only.as_deref() == Some("far") {
+        far::run(&mut tally);
     }
     if wanted("limits") {
         limits::run(&mut tally);

@@ -139,8 +139,8 @@ pub fn lookup(table: &[u32], line: u32, col: u32) -> Answer {
 pub mod raw {
     use super::*;
 
-    pub unsafe fn decode(text: &[u8], table: *mut u32, numbers: usize) -> (Answer, u64, u64) {
-        let d = unsafe { pgk_decode(text.as_ptr(), text.len(), 0, 0, table, numbers) };
+    pub unsafe fn decode(entry: Entry, text: &[u8], table: *mut u32, numbers: usize) -> (Answer, u64, u64) {
+        let d = unsafe { entry.function()(text.as_ptr(), text.len(), 0, 0, table, numbers) };
         (Answer { code: d.code, number: d.number }, d.tokens, d.offset)
     }
 

@@ -50,7 +50,8 @@ impl File {
         let mut lines = format!("{kind} {}\n", shown.join(" ")).into_bytes();
         lines.extend(second);
         lines.push(b'\n');
-        if numbers.len() > NUMBERS || second.len() > BYTES || lines.len() > BLOCK || second.contains(&b'\n') || lines == self.last {
+        if numbers.len() > NUMBERS || second.len() > BYTES || lines.len() > BLOCK || second.contains(&b'\n') || lines == self.last
+        {
             return;
         }
         self.last.clone_from(&lines);
@@ -166,13 +167,32 @@ fn decode(file: &mut File, seed: u64) {
     let mut seen = HashMap::new();
     decoding::digit_counts(&mut |case| {
         if let Some(d) = decoded(&case) {
-            let key = (case.text.len(), d.code, d.number == 0, d.tokens.len(), case.text.iter().take(30).map(|&b| b == b'A').collect::<Vec<_>>());
+            let key = (
+                case.text.len(),
+                d.code,
+                d.number == 0,
+                d.tokens.len(),
+                case.text.iter().take(30).map(|&b| b == b'A').collect::<Vec<_>>(),
+            );
             if seen.insert(key, ()).is_none() {
                 put_text(file, &case);
             }
         }
         true
     });
+
+    // Where a value may end, and where it is too long.
+    file.group("decode: twelve to fourteen digits");
+    for digits in 11..=14 {
+        for digit in [b'g', b'h', b'/'] {
+            for (before, behind) in
+                [("", ""), ("", ","), ("", ";"), ("", "A"), ("", "Q"), ("", "P"), ("A;", ",A"), ("AAAA", ";"), ("A", "A")]
+            {
+                let text = [before.as_bytes(), &vec![digit; digits], behind.as_bytes()].concat();
+                put_text(file, &Text { text, sources: 1, names: 1 });
+            }
+        }
+    }
 
     let mut random = Random::new(seed, "recorded texts");
     file.group("decode: sums at the limits");
@@ -221,6 +241,18 @@ fn put_chunk(file: &mut File, case: &Write) {
 
 fn encode(file: &mut File, seed: u64) {
     let mut random = Random::new(seed, "recorded chunks");
+    file.group("encode: worked and equal tokens");
+    let pair = [[0, 0, 2, 3, 0, NONE], [1, 1, 2, 3, NONE, NONE]].concat();
+    for (start, end) in [(0, 2), (0, 1), (1, 2)] {
+        let chunk = TokenChunk { start, end, prev_src_line: 2 * start, prev_src_col: 3 * start, ..TokenChunk::default() };
+        put_chunk(file, &Write { table: pair.clone(), chunk });
+    }
+    for numbers in [[0; 6], [0, 0, 0, 0, 0, NONE], [2, 7, 1, 1, 3, 4], [0, 1, 0, 0, NONE, NONE]] {
+        for count in 2..=4 {
+            let chunk = TokenChunk { end: count, ..TokenChunk::default() };
+            put_chunk(file, &Write { table: numbers.repeat(count as usize), chunk });
+        }
+    }
     file.group("encode: small lists");
     writing::small_lists(&mut |case| {
         if case.table.len() < 12 || random.one_in(15) {
@@ -387,6 +419,33 @@ fn compose(file: &mut File, seed: u64) {
         }
         true
     });
+    // Names twice in either list, empty names, ids past the lists.
+    file.group("compose: names");
+    let lists: [&[&[u8]]; 6] = [&[], &[b"a"], &[b"b", b"b"], &[b"b", b"a", b"b"], &[b"", b"a", b""], &[b"ab", b"a", b"ab", b"b"]];
+    for outer_list in lists {
+        for inner_list in lists {
+            let (outer_names, inner_names) = (composing::names_of(outer_list, b""), composing::names_of(inner_list, b"x"));
+            let at =
+                |col: u32, name_id: u32| Token { dst_line: 0, dst_col: col, src_line: 0, src_col: col, source_id: 0, name_id };
+            let ids = (0..outer_list.len() as u32 + 1).rev();
+            let outer: Vec<Token> = ids.clone().chain(ids).enumerate().map(|(i, id)| at(i as u32, id)).collect();
+            for inner_id in [NONE, 0, inner_list.len() as u32] {
+                let inner = [at(0, NONE), at(3, inner_id)];
+                put_pair(
+                    file,
+                    &Pair {
+                        outer: table_of(&outer),
+                        sources: 1,
+                        outer_names: outer_names.clone(),
+                        inner: table_of(&inner),
+                        inner_names: inner_names.clone(),
+                        result: 6 * outer.len(),
+                        added: outer_list.len(),
+                    },
+                );
+            }
+        }
+    }
     file.group("compose: lists");
     composing::pairs(&mut random, 600, 6, &mut |case| {
         put_pair(file, &case);

@@ -378,6 +378,31 @@ pub fn small_lists(go: &mut dyn FnMut(Write) -> bool) {
     }
 }
 
+/// Each field by each step of up to two digits, and around each count of digits, both ways.
+fn every_step(go: &mut dyn FnMut(Write) -> bool) {
+    let around = (0..32).flat_map(|k| (0..5).map(move |d| (1u32 << k).wrapping_add(d).wrapping_sub(2)));
+    for step in (0..1100).chain(around) {
+        for (from, to) in [(0, step), (step, 0), (u32::MAX - step, u32::MAX - 1)] {
+            for source_id in [to, NONE] {
+                let token = Token { dst_line: 0, dst_col: to, src_line: to, src_col: to, source_id, name_id: to };
+                let chunk = TokenChunk {
+                    start: 0,
+                    end: 1,
+                    prev_dst_line: 0,
+                    prev_dst_col: from,
+                    prev_src_line: from,
+                    prev_src_col: from,
+                    prev_name_id: from,
+                    prev_source_id: from,
+                };
+                if !go(Write { table: table_of(&[token]), chunk }) {
+                    return;
+                }
+            }
+        }
+    }
+}
+
 /// The crate's number for a difference, which its digits spell.
 #[derive(Clone, Debug)]
 struct Difference(u32, u32);
@@ -416,6 +441,7 @@ pub fn run(tally: &mut Tally, seed: u64, scale: usize) {
             }
         }
     });
+    tally.group("write: every step of two digits", every_step);
     tally.group("write: small lists, every chunk", small_lists);
     tally.group("write: every cut of small lists", |go| every_cut(&mut Random::new(seed, "cuts"), 3_000 * scale, go));
     tally.group("write: extreme numbers", |go| edges(&mut Random::new(seed, "extreme"), 150_000 * scale, go));

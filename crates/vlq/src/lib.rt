@@ -1,10 +1,13 @@
 // Reads the digits of one value.
 ghost use mathlib.Core.Path.{_≡_};
-ghost use Prim.Native.Nat.{_+_, _*_, _/_, _%_, _^_, _<_};
-ghost use lib.Dec.{eqb};
+ghost use mathlib.Core.Bool.{false};
+ghost use Prim.Native.Nat.{_+_, _*_, _/_, _%_, _^_, _<_, _≤_};
+ghost use lib.Dec.{eqb, ltb};
+ghost use lib.ListN.{length, getD};
 ghost use Rattle.list.specs.Pick.{pick};
-ghost use Rattle.digits.specs.Digits.{reading};
+ghost use Rattle.digits.specs.Digits.{reading, isDelim};
 ghost use Rattle.vlq.specs.Vlq.{vlqAt};
+ghost use Rattle.vlq.specs.Several.{FewAt};
 
 // What stands at a place of the text: nothing more of its segment; a number, as its low 64 bits, the bit above them and
 // the place after it; or no number, with the place where it broke.
@@ -40,6 +43,57 @@ fn put_digit(cur: u64, k: u64, d: u64) -> u64
     cur + ((d % 32 - 16 * lost) << (5 * k))
 }
 
+// A number of few digits: its bits and how many they are, 0 where that is not known.
+struct Few {
+    bits: u64,
+    count: usize,
+}
+
+// The digit `d`, or 0 where the one before it was the last.
+fn held(before: u64, d: u64) -> u64
+    ensures { λ r. ⌜ r ≡ pick (ltb before 32) 0 d ⌝ }
+{
+    if before < 32 {
+        return 0;
+    }
+    d
+}
+
+// 1 where another digit follows `d`, else 0.
+fn more(d: u64) -> usize
+    ensures { λ r. ⌜ (r ≡ pick (ltb d 32) 0 1) × (r ≤ 1) ⌝ }
+{
+    if d < 32 {
+        return 0;
+    }
+    1
+}
+
+// A number of two, three or four digits. How many they are is as good as random, so that it is data and no branch. The tests are
+// sufficient and no more.
+fn few_digits(t: &[u8; 256], s: &[u8], at: usize) -> Few
+    requires { ⌜ (now t ≡ reading) × ((at + 4 ≤ length (now s)) × (isDelim (getD (now s) at 0) ≡ false)) ⌝ }
+    ensures { λ r. ⌜ (r .count ≤ 4) × FewAt (now (s .entry)) at (r .bits) (r .count) ⌝ }
+{
+    let a = wide(digits::code_in(t, s[at]));
+    let b = wide(digits::code_in(t, s[at + 1]));
+    let c = held(b, wide(digits::code_in(t, s[at + 2])));
+    let d = held(c, wide(digits::code_in(t, s[at + 3])));
+    if b < 64 {
+        if c < 64 {
+            if d < 32 {
+                if 32 <= a {
+                    return Few {
+                        bits: a % 32 + b % 32 * 32 + c % 32 * 1024 + d * 32768,
+                        count: 2 + more(b) + more(c),
+                    };
+                }
+            }
+        }
+    }
+    Few { bits: 0, count: 0 }
+}
+
 // At most thirteen digits. A delimiter or the end where a digit is due comes before a fourteenth.
 pub fn next_vlq(t: &[u8; 256], s: &[u8], at: usize) -> Vlq
     requires { ⌜ now t ≡ reading ⌝ }
@@ -50,6 +104,12 @@ pub fn next_vlq(t: &[u8; 256], s: &[u8], at: usize) -> Vlq
     }
     if digits::code_in(t, s[at]) == 64 {
         return Vlq::End;
+    }
+    if 4 <= s.len() - at {
+        let few = few_digits(t, s, at);
+        if 0 < few.count {
+            return Vlq::Value(few.bits, 0, at + few.count);
+        }
     }
     let mut cur: u64 = 0;
     let mut k: u64 = 0;

@@ -1,4 +1,5 @@
 pub mod Five
+pub mod OneDigit
 pub mod Loop
 pub mod Range
 pub mod Reach

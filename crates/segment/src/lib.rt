@@ -2,8 +2,9 @@
 use value::Mode;
 use vlq::Vlq;
 ghost use mathlib.Core.Path.{_≡_};
-ghost use Rattle.digits.specs.Digits.{reading};
+ghost use Rattle.digits.specs.Digits.{reading, shortReading};
 ghost use Rattle.segment.specs.Segment.{brokenAt, segmentAt};
+ghost use Rattle.segment.specs.Fields.{parsedAt};
 
 // How a segment ended: with a delimiter or the text, or where a value broke.
 pub enum Ending {
@@ -21,6 +22,43 @@ pub struct Segment {
     pub next: usize,
 }
 
+// What stands at a place of the text: nothing more of its segment; a value and the place after it; or where it broke.
+enum Parsed {
+    End,
+    Value(i64, usize),
+    Leftover(usize),
+    Overflow(usize),
+}
+
+// The next value, in general.
+fn next_value(t: &[u8; 256], s: &[u8], mode: Mode, at: usize) -> Parsed
+    requires { ⌜ now t ≡ reading ⌝ }
+    ensures { λ r. ⌜ r ≡ parsedAt mode (now (s .entry)) at ⌝ }
+{
+    let v = vlq::next_vlq(t, s, at);
+    match v {
+        Vlq::End => Parsed::End,
+        Vlq::Value(bits, lost, next) => Parsed::Value(value::value_of(mode, bits, lost), next),
+        Vlq::Leftover(place) => Parsed::Leftover(place),
+        Vlq::Overflow(place) => Parsed::Overflow(place),
+    }
+}
+
+// The next value: one of one digit is its entry in the second table, less 16.
+fn next_field(t: &[u8; 256], u: &[u8; 256], s: &[u8], mode: Mode, at: usize) -> Parsed
+    requires { ⌜ (now t ≡ reading) × (now u ≡ shortReading) ⌝ }
+    ensures { λ r. ⌜ r ≡ parsedAt mode (now (s .entry)) at ⌝ }
+{
+    if at < s.len() {
+        let e = digits::short_in(u, s[at]);
+        if e < 32 {
+            let x = e as i64;
+            return Parsed::Value(x - 16, at + 1);
+        }
+    }
+    next_value(t, s, mode, at)
+}
+
 // A segment of which a value broke.
 fn broken(end: Ending, at: usize) -> Segment
     ensures { λ r. ⌜ r ≡ brokenAt end at ⌝ }
@@ -34,8 +72,14 @@ fn broken(end: Ending, at: usize) -> Segment
     }
 }
 
-pub fn parse_vlq_segment(t: &[u8; 256], s: &[u8], mode: Mode, at: usize) -> Segment
-    requires { ⌜ now t ≡ reading ⌝ }
+pub fn parse_vlq_segment(
+    t: &[u8; 256],
+    u: &[u8; 256],
+    s: &[u8],
+    mode: Mode,
+    at: usize,
+) -> Segment
+    requires { ⌜ (now t ≡ reading) × (now u ≡ shortReading) ⌝ }
     ensures { λ r. ⌜ r ≡ segmentAt mode (now (s .entry)) at ⌝ }
 {
     let mut nums = [0i64; 5];
@@ -43,9 +87,9 @@ pub fn parse_vlq_segment(t: &[u8; 256], s: &[u8], mode: Mode, at: usize) -> Segm
     let mut count: usize = 0;
     let mut i = at;
     loop {
-        let v = vlq::next_vlq(t, s, i);
-        match v {
-            Vlq::End => {
+        let f = next_field(t, u, s, mode, i);
+        match f {
+            Parsed::End => {
                 return Segment {
                     end: Ending::Whole,
                     nums,
@@ -54,14 +98,13 @@ pub fn parse_vlq_segment(t: &[u8; 256], s: &[u8], mode: Mode, at: usize) -> Segm
                     next: i,
                 };
             }
-            Vlq::Leftover(place) => {
+            Parsed::Leftover(place) => {
                 return broken(Ending::Leftover(place), place);
             }
-            Vlq::Overflow(place) => {
+            Parsed::Overflow(place) => {
                 return broken(Ending::Overflow(place), place);
             }
-            Vlq::Value(bits, lost, next) => {
-                let x = value::value_of(mode, bits, lost);
+            Parsed::Value(x, next) => {
                 if count < 5 {
                     nums[count] = x;
                     starts[count] = i;

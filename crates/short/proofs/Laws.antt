@@ -13,7 +13,7 @@ use Rattle.list.specs.Pick.{pick}
 use Rattle.digits.specs.Digits.{shortOf}
 use Rattle.short.specs.declared.Near.{Near}
 use Rattle.short.specs.Short.{Shaped, Stepped, Fit}
-use Rattle.short.proofs.Bytes.{one}
+use Rattle.digits.proofs.Shorts.{one}
 
 -- the entries as the code has them: e for the fifth byte, f for the byte after the last field
 module _ (s : List ℕ) (at : ℕ) (a b c d e : ℕ)

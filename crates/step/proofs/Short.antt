@@ -24,7 +24,7 @@ use Rattle.apply.specs.declared.Applied.{Applied}
 use Rattle.apply.proofs.Takes.{state, takes-four, takes-five}
 use Rattle.short.specs.Short.{Shaped, Stepped, Nears, Fit}
 use Rattle.short.specs.declared.Near.{Near}
-use Rattle.short.proofs.Bytes.{One, one, delim, entry}
+use Rattle.digits.proofs.Shorts.{One, one, delim, entry}
 use Rattle.short.proofs.Laws.{shaped-few}
 use Rattle.step.specs.Step.{segmentStep, segmentedAt, shortStep}
 use Rattle.step.proofs.Sums.{sum-at, name-at, id-at}

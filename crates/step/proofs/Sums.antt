@@ -15,7 +15,7 @@ use Rattle.value.proofs.Range.{value-small}
 use Rattle.sums.specs.Sums.{reducedOf, sumOf, idOf, nameSumOf}
 use Rattle.sums.specs.declared.Kept.{Kept}
 use Rattle.sums.specs.declared.Id.{Id}
-use Rattle.short.proofs.Bytes.{entry}
+use Rattle.digits.proofs.Shorts.{entry}
 
 down : (x base m : ℕ) → x + m ≡ base → pos base +ℤ negℤ (pos m) ≡ pos x
 down x base zero e = ap pos (omega arith)

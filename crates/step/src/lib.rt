@@ -41,11 +41,19 @@ fn step_of(begin: usize, starts: [usize; 5], a: Applied) -> Step
 }
 
 // A segment in general.
-fn general_step(t: &[u8; 256], s: &[u8], mode: Mode, sources: u32, names: u32, st: State) -> Step
-    requires { ⌜ now t ≡ reading ⌝ }
+fn general_step(
+    t: &[u8; 256],
+    u: &[u8; 256],
+    s: &[u8],
+    mode: Mode,
+    sources: u32,
+    names: u32,
+    st: State,
+) -> Step
+    requires { ⌜ (now t ≡ reading) × (now u ≡ shortReading) ⌝ }
     ensures { λ r. ⌜ r ≡ segmentedAt mode sources names (now (s .entry)) st ⌝ }
 {
-    let g = segment::parse_vlq_segment(t, s, mode, st.at);
+    let g = segment::parse_vlq_segment(t, u, s, mode, st.at);
     let end = g.end;
     let starts = g.starts;
     match end {
@@ -122,7 +130,7 @@ fn segment_step(
             }
         }
     }
-    general_step(t, s, mode, sources, names, st)
+    general_step(t, u, s, mode, sources, names, st)
 }
 
 // `,` or `;`

@@ -1,0 +1,144 @@
+-- A field as the code reads it: by the second table where it has one digit, else by its bits. Assumes nothing.
+use mathlib.Core.Path.{_≡_, refl, sym, _∙_, ap}
+use mathlib.Core.Bool.{Bool, true, false}
+use mathlib.Core.List.{List}
+use Prim.Native.Nat.{ℕ, zero, suc, _+_, _-_, _/_, _%_, _^_, _<_, _≤_}
+use native.Mathlib.Omega.{arith}
+use lib.Dec.{eqb}
+use lib.IntN.{ℤ, pos, negsuc, negℤ, _-ℤ_}
+use lib.ListN.{length, getD, drop}
+use borrow.Author.Tests.{lt-ltb, le-ltb}
+use mir.Syntax.{w64}
+use mir.Val.{SFits, toZ, ofZ}
+use mir.ValLaws.{toZ-pos, toZ-ofZ}
+use Rattle.list.specs.Pick.{pick}
+use Rattle.digits.specs.Digits.{digitOf, shortOf}
+use Rattle.digits.proofs.Shorts.{One, one, entry}
+use Rattle.value.specs.Value.{valueOf}
+use Rattle.value.specs.declared.Mode.{Mode}
+use Rattle.value.proofs.Range.{value-small, value-range, small-fits}
+use Rattle.vlq.specs.Vlq.{vlqAt}
+use Rattle.vlq.specs.declared.Vlq.{Vlq}
+use Rattle.vlq.specs.declared.Vlq.the-variants.{End, Value, Leftover, Overflow}
+use Rattle.vlq.proofs.Steps.{one-digit}
+use Rattle.vlq.proofs.Values.{value-bits}
+use Rattle.segment.specs.Fields.{parsed, parsedAt}
+use Rattle.segment.specs.declared.Parsed.{Parsed}
+
+below : (m : ℕ) → m ≤ 16 → pos (16 - m) -ℤ pos 16 ≡ negℤ (pos m)
+below zero h = refl
+below (suc m) h = rw (lt-ltb (16 - suc m) 16 (omega arith)) (ap negsuc (omega arith))
+
+above : (m : ℕ) → pos (16 + m) -ℤ pos 16 ≡ pos m
+above m = rw (le-ltb (16 + m) 16 (omega arith)) (ap pos (omega arith))
+
+entry-by : (t : Bool) (d : ℕ) → d < 32 → pos (pick t (16 - d / 2) (16 + d / 2)) -ℤ pos 16 ≡ pick t (negℤ (pos (d / 2))) (pos (d / 2))
+entry-by true d h = below (d / 2) (omega arith)
+entry-by false d h = above (d / 2)
+
+module _ (mode : Mode) (s : List ℕ) (at : ℕ) where
+  fits : (bits lost : ℕ) → bits < 2 ^ 64 → SFits w64 (valueOf mode bits lost)
+  fits bits lost h = small-fits (valueOf mode bits lost) (value-range mode bits lost h)
+
+  -- e is what the second table gives for the byte
+  module _ (e : ℕ) (h : at < length s) (is : e ≡ shortOf (getD s at 0)) (l : e < 32) where
+    o : One (getD s at 0)
+    o = one (getD s at 0) (omega (arith, is, l))
+
+    step-is : toZ w64 e -ℤ pos 16 ≡ valueOf mode (digitOf (getD s at 0)) 0
+    step-is =
+        ap (λ (z : ℤ). z -ℤ pos 16) (toZ-pos w64 e (omega arith) ∙ ap pos (is ∙ o .is))
+        ∙ entry-by (eqb (digitOf (getD s at 0) % 2) 1) (digitOf (getD s at 0)) (o .small)
+        ∙ sym (value-small mode (digitOf (getD s at 0)) 0 (omega (arith, o .small)))
+
+    pub step-fits : SFits w64 (toZ w64 e -ℤ pos 16)
+    step-fits = rw step-is (fits (digitOf (getD s at 0)) 0 (omega (arith, o .small)))
+
+    pub short-field : Parsed.Value (toZ w64 (ofZ w64 (toZ w64 e -ℤ pos 16))) (at + 1) ≡ parsedAt mode s at
+    unfolding parsedAt
+    short-field =
+        ap (λ (z : ℤ). Parsed.Value z (at + 1)) (toZ-ofZ w64 (toZ w64 e -ℤ pos 16) step-fits ∙ step-is)
+        ∙ ap (parsed mode) (sym (one-digit s at h (o .delim) (o .small)))
+
+  -- v is what the reader gives
+  module _ (v : Vlq) (is : v ≡ vlqAt s at) where
+    pub end-field : v ≡ End → Parsed.End ≡ parsedAt mode s at
+    unfolding parsedAt
+    end-field e = ap (parsed mode) (sym e ∙ is)
+
+    pub cut-field : (place : ℕ) → v ≡ Leftover place → Parsed.Leftover place ≡ parsedAt mode s at
+    unfolding parsedAt
+    cut-field place e = ap (parsed mode) (sym e ∙ is)
+
+    pub long-field : (place : ℕ) → v ≡ Overflow place → Parsed.Overflow place ≡ parsedAt mode s at
+    unfolding parsedAt
+    long-field place e = ap (parsed mode) (sym e ∙ is)
+
+    pub value-field : (bits lost next : ℕ) → v ≡ Value bits lost next → (x : ℤ) → x ≡ valueOf mode bits lost
+        → Parsed.Value (toZ w64 (ofZ w64 x)) next ≡ parsedAt mode s at
+    unfolding parsedAt
+    value-field bits lost next e x ex =
+        ap (λ (z : ℤ). Parsed.Value z next)
+        (ap (λ (z : ℤ). toZ w64 (ofZ w64 z)) ex ∙ toZ-ofZ w64 (valueOf mode bits lost) (fits bits lost (bits-small bits lost next (sym e ∙ is))))
+        ∙ ap (parsed mode) (sym e ∙ is)
+      where
+        bits-small : (bits lost next : ℕ) → Value bits lost next ≡ vlqAt s at → bits < 2 ^ 64
+        bits-small bits lost next q = value-bits at (drop at s) bits lost next (sym q)
+
+-- ---- back from a field to what the reader gave
+zero-one : _≡_ {A = ℕ} 0 1 → ⊥
+zero-one z = omega arith
+
+pub record Found (mode : Mode) (v : Vlq) (x : ℤ) (next : ℕ) : Type 0 where
+  pub bits : ℕ
+  pub lost : ℕ
+  pub is : Value bits lost next ≡ v
+  pub value : x ≡ valueOf mode bits lost
+
+-- a signed local holds the value
+pub kept-is : {mode : Mode} {v : Vlq} {x : ℤ} {next : ℕ} (f : Found mode v x next) → SFits w64 (valueOf mode (f .bits) (f .lost))
+    → toZ w64 (ofZ w64 x) ≡ valueOf mode (f .bits) (f .lost)
+kept-is {mode} f h = ap (λ (z : ℤ). toZ w64 (ofZ w64 z)) (f .value) ∙ toZ-ofZ w64 (valueOf mode (f .bits) (f .lost)) h
+
+found-in : (mode : Mode) (v : Vlq) (x : ℤ) (next : ℕ) → Parsed.Value x next ≡ parsed mode v → Found mode v x next
+found-in mode End x next e = absurd (zero-one cc)
+found-in mode (Value bits lost n) x next e =
+    let q : next ≡ n = cc in
+    let z : x ≡ valueOf mode bits lost = cc in
+    record { bits = bits; lost = lost; is = ap (Value bits lost) q; value = z }
+found-in mode (Leftover place) x next e = absurd (zero-one cc)
+found-in mode (Overflow place) x next e = absurd (zero-one cc)
+
+pub found : (mode : Mode) (s : List ℕ) (at : ℕ) (x : ℤ) (next : ℕ) → Parsed.Value x next ≡ parsedAt mode s at → Found mode (vlqAt s at) x next
+unfolding parsedAt
+found mode s at x next e = found-in mode (vlqAt s at) x next e
+
+ended-in : (mode : Mode) (v : Vlq) → Parsed.End ≡ parsed mode v → End ≡ v
+ended-in mode End e = refl
+ended-in mode (Value bits lost n) e = absurd (zero-one cc)
+ended-in mode (Leftover place) e = absurd (zero-one cc)
+ended-in mode (Overflow place) e = absurd (zero-one cc)
+
+pub ended : (mode : Mode) (s : List ℕ) (at : ℕ) → Parsed.End ≡ parsedAt mode s at → End ≡ vlqAt s at
+unfolding parsedAt
+ended mode s at e = ended-in mode (vlqAt s at) e
+
+cut-in : (mode : Mode) (v : Vlq) (place : ℕ) → Parsed.Leftover place ≡ parsed mode v → Leftover place ≡ v
+cut-in mode End place e = absurd (zero-one cc)
+cut-in mode (Value bits lost n) place e = absurd (zero-one cc)
+cut-in mode (Leftover p) place e = let q : place ≡ p = cc in ap Leftover q
+cut-in mode (Overflow p) place e = absurd (zero-one cc)
+
+pub was-cut : (mode : Mode) (s : List ℕ) (at place : ℕ) → Parsed.Leftover place ≡ parsedAt mode s at → Leftover place ≡ vlqAt s at
+unfolding parsedAt
+was-cut mode s at place e = cut-in mode (vlqAt s at) place e
+
+long-in : (mode : Mode) (v : Vlq) (place : ℕ) → Parsed.Overflow place ≡ parsed mode v → Overflow place ≡ v
+long-in mode End place e = absurd (zero-one cc)
+long-in mode (Value bits lost n) place e = absurd (zero-one cc)
+long-in mode (Leftover p) place e = absurd (zero-one cc)
+long-in mode (Overflow p) place e = let q : place ≡ p = cc in ap Overflow q
+
+pub was-long : (mode : Mode) (s : List ℕ) (at place : ℕ) → Parsed.Overflow place ≡ parsedAt mode s at → Overflow place ≡ vlqAt s at
+unfolding parsedAt
+was-long mode s at place e = long-in mode (vlqAt s at) place e

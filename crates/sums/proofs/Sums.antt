@@ -1,130 +1,92 @@
--- A running number and a signed value. Assumes nothing.
-use mathlib.Core.Path.{_≡_, refl, ap, ap₂, sym, _∙_}
-use mathlib.Core.Bool.{Bool, true, false, cond}
-use Prim.Native.Nat.{ℕ, zero, suc, _+_, _-_, _^_, _≤_, _<_}
+-- What each mode makes of a sum, from its bits. Assumes nothing.
+use mathlib.Core.Path.{_≡_, refl, ap, sym, _∙_}
+use Prim.Native.Nat.{ℕ, suc, _-_, _%_, _^_, _≤_, _<_}
 use native.Mathlib.Omega.{arith}
-use native.Mathlib.Nat.{le-refl}
-use lib.IntN.{ℤ, pos, negsuc, _+ℤ_, _-ℤ_, natAbs}
-use lib.Signed.{mag, ltZ, nonNeg}
-use lib.Dec.{T, ltb}
-use borrow.Author.Tests.{ltb-true, le-ltb}
+use lib.IntN.{ℤ, pos, negsuc, _+ℤ_}
+use borrow.Author.Tests.{lt-ltb, le-ltb}
 use mir.Syntax.{w64}
-use mir.Val.{SFits, Fits, toZ, ofZ}
-use mir.ValLaws.{toZ-pos, toZ-ofZ}
-use Rattle.sums.specs.declared.Sum.{Sum}
-use Rattle.sums.specs.Sums.{split}
+use mir.Val.{SFits}
+use mir.ValLaws.{toZ-ofZ}
+use Rattle.value.specs.declared.Mode.{Mode}
+use Rattle.value.specs.declared.Mode.the-variants.{Lenient, Checked}
+use Rattle.value.specs.Value.{asSigned}
+use Rattle.value.proofs.Signed.{asSigned-low, asSigned-high}
+use Rattle.sums.specs.declared.Kept.{Kept}
+use Rattle.sums.specs.declared.Id.{Id}
+use Rattle.sums.specs.Sums.{reducedOf, sumOf, idOf, nameSumOf, widestOf}
+use Rattle.sums.proofs.Bits.{halves, held}
 
--- what a signed local holds, read back
-abbrev pub held : ℤ → ℤ
-held z = toZ w64 (ofZ w64 z)
+-- each mode keeps 32 bits at the least, and nothing below 0
+record Widest (mode : Mode) : Type 0 where
+  least : 2 ^ 32 ≤ suc (widestOf mode)
+  most : widestOf mode < 2 ^ 63
 
-mag-least : (v : ℤ) → natAbs v ≤ 2 ^ 62 → mag v ≤ 2 ^ 62
-mag-least (pos n) h = h
-mag-least (negsuc n) h = omega arith
+bounds : (mode : Mode) → Widest mode
+unfolding widestOf
+bounds Lenient = record { least = omega arith; most = omega arith }
+bounds Checked = record { least = omega arith; most = omega arith }
 
-mag-sum : (b : ℕ) (v : ℤ) → mag (pos b +ℤ v) ≤ b + mag v
-mag-sum b (pos n) = le-refl (b + n)
-mag-sum b (negsuc n) = go (ltb b (suc n))
-  where
-    go : (t : Bool) → mag (cond t (negsuc (suc n - suc b)) (pos (b - suc n))) ≤ b + n
-    go true = omega arith
-    go false = omega arith
+within : (mode : Mode) (n : ℕ) → n ≤ widestOf mode → Kept.At (n % 2 ^ 32) ≡ reducedOf mode n
+unfolding reducedOf widestOf
+within Lenient n h = refl
+within Checked n h =
+    let s : n % 2 ^ 32 ≡ n = omega arith in
+    rw (lt-ltb n 4294967296 (omega arith)) (ap Kept.At s)
 
--- -1 - z, of a z below 0
-record Under (z : ℤ) : Type 0 where
-  n : ℕ
-  is : z ≡ negsuc n
-  flip : negsuc 0 -ℤ z ≡ pos n
+beyond : (mode : Mode) (n : ℕ) → widestOf mode < n → n < 2 ^ 63 → Kept.Wide ≡ reducedOf mode n
+unfolding reducedOf widestOf
+beyond Lenient n h l = absurd (omega arith)
+beyond Checked n h l = rw (le-ltb n 4294967296 (omega arith))
 
-under : (z : ℤ) → ltZ z (pos 0) ≡ true → Under z
-under (pos n) e = let h : n < 0 = ltb-true n 0 e in absurd (omega arith)
-under (negsuc n) e =
-    let s : suc n - 1 ≡ n = omega arith in
-    record { n = n; is = refl; flip = rw (le-ltb (suc n) 1 (omega arith), s) }
+-- n are the bits of the sum, as `sum_of` says, whose argument the code reads back
+module _ (b : ℕ) (v : ℤ) (f : SFits w64 v) (n : ℕ) (hn : n < 2 ^ 64) (is : asSigned n ≡ pos b +ℤ held v) where
+  abbrev z : ℤ
+  z = pos b +ℤ v
 
-record Over (z : ℤ) : Type 0 where
-  n : ℕ
-  is : z ≡ pos n
+  sum-is : z ≡ asSigned n
+  sum-is = sym (rw (toZ-ofZ w64 v f) at is)
 
-over : (z : ℤ) → ltZ z (pos 0) ≡ false → Over z
-over (pos n) e = record { n = n; is = refl }
-over (negsuc n) e = let z : _≡_ {A = ℕ} 0 1 = cc in absurd (omega arith)
+  up : n < 2 ^ 63 → z ≡ pos n
+  up h = sum-is ∙ asSigned-low n h
 
-abbrev pub Casts : ℤ → Type 0
-Casts z = T (nonNeg z) × Fits w64 (natAbs z)
+  down : 2 ^ 63 ≤ n → z ≡ negsuc (2 ^ 64 - suc n)
+  down h = sum-is ∙ asSigned-high n h
 
-module _ (b : ℕ) (v : ℤ) (hb : b < 2 ^ 32) (av : natAbs v ≤ 2 ^ 62) where
-  hv : mag v ≤ 2 ^ 62
-  hv = mag-least v av
+  -- ---- `advance`
+  pub negative : (mode : Mode) → 2 ^ 63 ≤ n → Kept.Negative ≡ sumOf mode z
+  unfolding sumOf
+  negative mode h = rw (down h)
 
-  abbrev sum : ℤ
-  sum = toZ w64 b +ℤ held v
+  module _ (mode : Mode) (w : ℕ) (ew : w ≡ widestOf mode) where
+    pub kept : n ≤ w → Kept.At (n % 2 ^ 32) ≡ sumOf mode z
+    unfolding sumOf
+    kept h = rw (up (omega (arith, bounds mode .most))) (within mode n (omega arith))
 
-  sum-is : sum ≡ pos b +ℤ v
-  sum-is = ap₂ _+ℤ_ (toZ-pos w64 b (omega arith)) (toZ-ofZ w64 v (record { sfits = omega (arith, hv) }))
+    pub wide : w < n → n < 2 ^ 63 → Kept.Wide ≡ sumOf mode z
+    unfolding sumOf
+    wide h l = rw (up l) (beyond mode n (omega arith) l)
 
-  small : mag (pos b +ℤ v) < 2 ^ 63
-  small = omega (arith, mag-sum b v, hv)
+  -- ---- `source_after`
+  pub inside : (count : ℕ) → count < 2 ^ 32 → n < count → Id.Is n ≡ idOf count z
+  unfolding idOf
+  inside count l h = rw (up (omega arith), lt-ltb n count h)
 
-  pub sum-fits : SFits w64 sum
-  sum-fits = rw sum-is (record { sfits = small })
+  pub outside : (count : ℕ) → count ≤ n → Id.Outside ≡ idOf count z
+  unfolding idOf
+  outside count h = halves n (λ l. rw (up l, le-ltb n count h)) (λ l. rw (down l))
 
-  held-sum : held sum ≡ pos b +ℤ v
-  held-sum = toZ-ofZ w64 sum sum-fits ∙ sum-is
+  -- ---- `name_after`
+  pub name-kept : (mode : Mode) → n < 2 ^ 32 → Kept.At n ≡ nameSumOf mode z
+  unfolding nameSumOf
+  name-kept mode h =
+      let s : n ≡ n % 2 ^ 32 = omega arith in
+      rw (up (omega arith)) (ap Kept.At s ∙ within mode n (omega (arith, bounds mode .least)))
 
-  module _ (e : ltZ (held sum) (pos 0) ≡ true) where
-    u : Under (pos b +ℤ v)
-    u = under (pos b +ℤ v) (rw held-sum at e)
+  -- the low 32 bits are the sum modulo 2^32, of a negative one too
+  pub name-reduced : Kept.At (n % 2 ^ 32) ≡ nameSumOf Lenient z
+  unfolding nameSumOf reducedOf
+  name-reduced = halves n (λ l. rw (up l)) (λ l. rw (down l) (ap Kept.At (omega arith)))
 
-    n-small : u .n < 2 ^ 63
-    n-small = omega (arith, rw (u .is) at small)
-
-    flip-is : negsuc 0 -ℤ held sum ≡ pos (u .n)
-    flip-is = ap (λ (z : ℤ). negsuc 0 -ℤ z) held-sum ∙ u .flip
-
-    pub flip-fits : SFits w64 (negsuc 0 -ℤ held sum)
-    flip-fits = rw flip-is (record { sfits = n-small })
-
-    held-flip : held (negsuc 0 -ℤ held sum) ≡ pos (u .n)
-    held-flip = toZ-ofZ w64 (negsuc 0 -ℤ held sum) flip-fits ∙ flip-is
-
-    pub down-casts : Casts (held (negsuc 0 -ℤ held sum))
-    down-casts = rw held-flip (tt, record { fits = omega (arith, n-small) })
-
-    pub down : Sum.Down (natAbs (held (negsuc 0 -ℤ held sum))) ≡ split (pos b +ℤ v)
-    down = rw (held-flip, u .is)
-
-  module _ (e : ltZ (held sum) (pos 0) ≡ false) where
-    o : Over (pos b +ℤ v)
-    o = over (pos b +ℤ v) (rw held-sum at e)
-
-    held-up : held sum ≡ pos (o .n)
-    held-up = held-sum ∙ o .is
-
-    pub up-casts : Casts (held sum)
-    up-casts = rw held-up (tt, record { fits = omega (arith, rw (o .is) at small) })
-
-    pub up : Sum.Up (natAbs (held sum)) ≡ split (pos b +ℤ v)
-    up = rw (held-up, o .is)
-
--- ---- from the answer of `sum_of`, whose argument the code reads back, to the integer
-module _ (b : ℕ) (v : ℤ) (f : SFits w64 v) where
-  held-is : held v ≡ v
-  held-is = toZ-ofZ w64 v f
-
-  pub held-few : natAbs v ≤ 2 ^ 62 → natAbs (held v) ≤ 2 ^ 62
-  held-few h = rw held-is h
-
-  pub was-up : (n : ℕ) → Sum.Up n ≡ split (pos b +ℤ held v) → pos b +ℤ v ≡ pos n
-  was-up n e = of-up (pos b +ℤ v) (rw held-is at e)
-    where
-      of-up : (z : ℤ) → Sum.Up n ≡ split z → z ≡ pos n
-      of-up (pos m) q = cc
-      of-up (negsuc m) q = let z : _≡_ {A = ℕ} 0 1 = cc in absurd (omega arith)
-
-  pub was-down : (n : ℕ) → Sum.Down n ≡ split (pos b +ℤ held v) → pos b +ℤ v ≡ negsuc n
-  was-down n e = of-down (pos b +ℤ v) (rw held-is at e)
-    where
-      of-down : (z : ℤ) → Sum.Down n ≡ split z → z ≡ negsuc n
-      of-down (pos m) q = let z : _≡_ {A = ℕ} 0 1 = cc in absurd (omega arith)
-      of-down (negsuc m) q = cc
+  pub name-wide : 2 ^ 32 ≤ n → Kept.Wide ≡ nameSumOf Checked z
+  unfolding nameSumOf reducedOf
+  name-wide h = halves n (λ l. rw (up l, le-ltb n 4294967296 h)) (λ l. rw (down l))

@@ -5,14 +5,8 @@ use lib.IntN.{ℤ, pos, negsuc}
 use Rattle.list.specs.Pick.{pick}
 use Rattle.value.specs.declared.Mode.{Mode}
 use Rattle.value.specs.declared.Mode.the-variants.{Lenient, Checked}
-use Rattle.sums.specs.declared.Sum.{Sum}
 use Rattle.sums.specs.declared.Kept.{Kept}
 use Rattle.sums.specs.declared.Id.{Id}
-
--- an integer by its sign
-abbrev pub split : ℤ → Sum
-split (pos n) = Sum.Up n
-split (negsuc n) = Sum.Down n
 
 -- a sum that is not below 0: kept modulo 2^32, or in checked mode refused where it is 2^32 or more
 unfoldable pub reducedOf : Mode → ℕ → Kept
@@ -34,3 +28,8 @@ unfoldable pub nameSumOf : Mode → ℤ → Kept
 nameSumOf mode (pos n) = reducedOf mode n
 nameSumOf Lenient (negsuc n) = Kept.At (4294967295 - n % 2 ^ 32)
 nameSumOf Checked (negsuc n) = Kept.Wide
+
+-- the largest of the 64-bit sums that a mode keeps
+unfoldable pub widestOf : Mode → ℕ
+widestOf Lenient = 2 ^ 63 - 1
+widestOf Checked = 2 ^ 32 - 1

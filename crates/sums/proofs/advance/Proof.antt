@@ -1,32 +1,40 @@
 -- `sums::advance` meets its contract. Assumes nothing.
+use native.Mathlib.Omega.{arith}
+use Rattle.sums.proofs.Sums.{kept, negative, wide}
 use borrow.Author.Needs.{needs}
-use mathlib.Core.Path.{sym, _∙_}
-use Rattle.sums.specs.Sums.{sumOf}
-use Rattle.sums.proofs.Sums.{was-up, was-down, held-few}
 use Rattle.sums.proofs.advance.Statement.{statement}
 use Rattle.sums.proofs.advance.Tie as tie
 
 sum-of-requires : tie.Need-sum-of-requires
-sum-of-requires c κs = held-few (c .args .base) _ (c .fits .v) (c .pre)
+sum-of-requires c κs = search needs
 
-enum-told : tie.Need-enum-told
-enum-told c = c .match .keys1
+widest-requires : tie.Need-widest-requires
+widest-requires c κs = search needs
 
-enum-known-sum : tie.Need-enum-known-sum
-enum-known-sum c = c .match .keys2
-
-reduced-requires : tie.Need-reduced-requires
-reduced-requires c κs = search needs
+cast-t8 : tie.Need-cast-t8
+cast-t8 c = search needs
 
 returns : tie.Need-returns
-unfolding sumOf
-returns c = rw (was-down (c .before .before .before .args .base) (c .before .before .before .args .v) (c .before .before .before .fits .v) _ (sym (c .enum-told .given .1) ∙ c .before .before .sum-of .ensures))
+returns c =
+    let s = c .before .before in
+    let a = s .before .args in
+    kept (a .base) (a .v) (s .before .fits .v) (s .sum-of .result) (omega arith) (s .sum-of .ensures) (a .mode) _
+    (c .before .widest .ensures) (c .if1 .taken)
 
 returns-2 : tie.Need-returns-2
-unfolding sumOf
-returns-2 c = rw (was-up (c .before .before .before .before .before .args .base) (c .before .before .before .before .before .args .v) (c .before .before .before .before .before .fits .v) _ (sym (c .before .before .sum .given .1) ∙ c .before .before .before .before .sum-of .ensures)) (c .reduced .ensures)
+returns-2 c =
+    let s = c .before .before .before in
+    let a = s .before .args in
+    negative (a .base) (a .v) (s .before .fits .v) (s .sum-of .result) (omega arith) (s .sum-of .ensures) (a .mode)
+    (c .if2 .taken)
+
+returns-3 : tie.Need-returns-3
+returns-3 c =
+    let s = c .before .before .before in
+    let a = s .before .args in
+    wide (a .base) (a .v) (s .before .fits .v) (s .sum-of .result) (omega arith) (s .sum-of .ensures) (a .mode) _
+    (c .before .before .widest .ensures) (c .before .if1 .left) (c .if2 .left)
 
 pub advance-spec : {M : Type 1} → statement M
 advance-spec =
-    tie.close
-    (tie.spec sum-of-requires enum-told enum-known-sum reduced-requires returns returns-2)
+    tie.close (tie.spec sum-of-requires widest-requires cast-t8 returns returns-2 returns-3)

@@ -1,29 +1,29 @@
 -- `sums::sum_of` meets its contract. Assumes nothing.
-use Rattle.sums.proofs.Sums.{sum-fits, flip-fits, down-casts, down, up-casts, up}
+use mir.Facts.{toZ-ofZ}
+use mathlib.Core.Path.{_∙_}
+use native.Mathlib.Omega.{arith}
+use Rattle.sums.proofs.Bits.{sum-bits}
 use borrow.Author.Needs.{needs}
 use Rattle.sums.proofs.sum_of.Statement.{statement}
 use Rattle.sums.proofs.sum_of.Tie as tie
 
-cast-sum : tie.Need-cast-sum
-cast-sum c = search needs
+bits-of-requires : tie.Need-bits-of-requires
+bits-of-requires c κs = search needs
 
-add-sum : tie.Need-add-sum
-add-sum c = sum-fits (c .args .base) (c .args .v) (c .fits .base .fits) (c .pre)
-
-sub-below : tie.Need-sub-below
-sub-below c = flip-fits (c .before .args .base) (c .before .args .v) (c .before .fits .base .fits) (c .before .pre) (c .if1 .taken)
-
-cast-t7 : tie.Need-cast-t7
-cast-t7 c = down-casts (c .before .args .base) (c .before .args .v) (c .before .fits .base .fits) (c .before .pre) (c .if1 .taken)
+wrapping-add-u64-requires : tie.Need-wrapping-add-u64-requires
+wrapping-add-u64-requires c κs = search needs
 
 returns : tie.Need-returns
-returns c = down (c .before .args .base) (c .before .args .v) (c .before .fits .base .fits) (c .before .pre) (c .if1 .taken)
-
-cast-t8 : tie.Need-cast-t8
-cast-t8 c = up-casts (c .before .args .base) (c .before .args .v) (c .before .fits .base .fits) (c .before .pre) (c .if1 .left)
-
-returns-2 : tie.Need-returns-2
-returns-2 c = up (c .before .args .base) (c .before .args .v) (c .before .fits .base .fits) (c .before .pre) (c .if1 .left)
+returns c =
+    rw (c .wrapping-add-u64 .ensures)
+    (sum-bits
+    (c .before .before .args .base)
+    (c .before .bits-of .result)
+    (omega arith)
+    (omega arith)
+    (c .before .before .args .v)
+    (c .before .bits-of .ensures ∙ toZ-ofZ (c .before .before .fits .v))
+    (c .before .before .pre))
 
 pub sum-of-spec : {M : Type 1} → statement M
-sum-of-spec = tie.close (tie.spec cast-sum add-sum sub-below cast-t7 returns cast-t8 returns-2)
+sum-of-spec = tie.close (tie.spec bits-of-requires wrapping-add-u64-requires returns)

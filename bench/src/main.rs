@@ -1,0 +1,470 @@
+//! Times the library and the crate oxc_sourcemap 9.0.0 side by side, in one process, in turn. A figure is the library's time
+//! divided by the crate's, with the quartiles of the ratios of neighbouring runs behind it.
+
+mod library;
+mod memory;
+mod texts;
+mod timing;
+
+use std::borrow::Cow;
+use std::hint::black_box;
+use std::path::{Path, PathBuf};
+
+use library::Chunk;
+use memory::Memory;
+use oxc_sourcemap::{SourceMap, Token, TokenChunk, reach};
+use texts::{Kind, Names, Random, Text, made, made_tokens, real, table_of, whole};
+use timing::{Thing, Timed, after, plain, shown, timed};
+
+#[global_allocator]
+static MEMORY: Memory = Memory::new();
+
+const SMALL: usize = 20_000;
+const LARGE: usize = 1_000_000;
+const REAL: [&str; 3] = ["tsc-js-typescript", "terser-typescript", "esbuild-bundle-ts-parser"];
+
+fn made_texts(count: usize, size: &str) -> Vec<Text> {
+    vec![
+        made(&format!("one-{size}"), Kind::OneDigit, count),
+        made(&format!("mixed-{size}"), Kind::Mixed, count),
+        made(&format!("multi-{size}"), Kind::Multi, count),
+    ]
+}
+
+fn real_texts(corpus: &Path) -> Result<Vec<Text>, String> {
+    REAL.iter().map(|id| real(corpus, id)).collect()
+}
+
+/// A thing done with freed memory handed out again.
+fn reusing<'a>(mut thing: Thing<'a>) -> Thing<'a> {
+    Box::new(move |times| {
+        MEMORY.reuse(true);
+        let seconds = thing(times);
+        MEMORY.reuse(false);
+        seconds
+    })
+}
+
+fn each(seconds: f64, tokens: usize) -> String {
+    format!("{:8.1}", seconds * 1e9 / tokens as f64)
+}
+
+fn over(ratio: f64, most: f64) -> &'static str {
+    if ratio > most { "  over" } else { "" }
+}
+
+fn decode_ours<'a>(t: &'a Text, table: &'a mut [u32]) -> impl FnMut() + 'a {
+    move || {
+        let d = library::decode(t.text.as_bytes(), t.sources, t.names, table);
+        assert!(d.code == 0 && d.tokens as usize == t.tokens.len());
+    }
+}
+
+fn decode_theirs(t: &Text) -> impl FnMut() + '_ {
+    move || {
+        let tokens = reach::decode_mapping(&t.text, t.names as usize, t.sources as usize);
+        assert!(black_box(tokens).is_ok_and(|tokens| tokens.len() == t.tokens.len()));
+    }
+}
+
+fn decode(seconds: f64, texts: &[Text], most: f64) {
+    for t in texts {
+        let mut table = vec![0u32; t.tokens.len() * 6];
+        let mut checked = table.clone();
+        decode_ours(t, &mut table)();
+        assert!(table == table_of(&t.tokens), "{}: not the crate's tokens", t.name);
+        let r = timed(
+            seconds,
+            vec![
+                plain(decode_ours(t, &mut table)),
+                plain(decode_theirs(t)),
+                reusing(plain(decode_theirs(t))),
+                plain(|| assert!(library::decode_checked(t.text.as_bytes(), t.sources, t.names, &mut checked).code == 0)),
+            ],
+        );
+        println!(
+            "{:<10} {:>8} {:>9} {:>18} {:>18} {:>14.2} {} {:>6}{}",
+            t.name,
+            t.tokens.len(),
+            t.text.len(),
+            shown(r.ratios[0]),
+            shown(r.ratios[1]),
+            r.medians[3] / r.medians[0],
+            each(r.medians[0], t.tokens.len()),
+            r.runs,
+            over(r.ratios[0].0, most),
+        );
+    }
+}
+
+/// The crate's chunks of so many tokens, each from the state that the tokens before it leave.
+fn chunks_of(tokens: &[Token], step: usize) -> Vec<TokenChunk> {
+    let (mut line, mut col, mut src_line, mut src_col, mut name, mut source) = (0, 0, 0, 0, 0, 0);
+    let mut chunks = Vec::new();
+    for (i, part) in tokens.chunks(step).enumerate() {
+        let start = (i * step) as u32;
+        chunks.push(TokenChunk::new(start, start + part.len() as u32, line, col, src_line, src_col, name, source));
+        for t in part {
+            (line, col) = (t.get_dst_line(), t.get_dst_col());
+            if let Some(id) = t.get_source_id() {
+                (src_line, src_col, source) = (t.get_src_line(), t.get_src_col(), id);
+                name = t.get_name_id().unwrap_or(name);
+            }
+        }
+    }
+    chunks
+}
+
+/// Writes a table in pieces, each from the state before it, into the room that `ends` gives it; the whole rest without.
+fn write_ours<'a>(table: &'a [u32], step: usize, bytes: usize, ends: Option<&'a [usize]>, out: &'a mut [u8]) -> impl FnMut() + 'a {
+    let tokens = table.len() / 6;
+    move || {
+        let mut chunk = Chunk::default();
+        let mut at = 0;
+        let mut piece = 0;
+        while (chunk.start as usize) < tokens {
+            chunk.end = (chunk.start as usize + step).min(tokens) as u32;
+            let to = ends.map_or(out.len(), |ends| ends[piece]);
+            let e = library::encode(table, chunk, &mut out[at..to]);
+            assert!(e.code == 0);
+            at += e.bytes as usize;
+            chunk = e.next;
+            piece += 1;
+        }
+        assert!(at == bytes);
+    }
+}
+
+fn write_theirs<'a>(tokens: &'a [Token], chunks: &'a [TokenChunk], bytes: usize, mut out: String) -> impl FnMut() + 'a {
+    move || {
+        out.clear();
+        for chunk in chunks {
+            reach::serialize_mappings(tokens, chunk, &mut out);
+        }
+        assert!(black_box(&out).len() == bytes);
+    }
+}
+
+/// As `SourceMap::to_json` does: the text is allocated by the crate's own estimate.
+fn write_theirs_anew<'a>(tokens: &'a [Token], chunks: &'a [TokenChunk], bytes: usize) -> impl FnMut() + 'a {
+    let estimate = tokens.len() * 12 + tokens.last().map_or(0, |t| t.get_dst_line() as usize);
+    move || {
+        let mut out = String::with_capacity(estimate);
+        for chunk in chunks {
+            reach::serialize_mappings(tokens, chunk, &mut out);
+        }
+        assert!(black_box(&out).len() == bytes);
+    }
+}
+
+fn roomy(tokens: &[Token]) -> usize {
+    tokens.len() * 36 + tokens.last().map_or(0, |t| t.get_dst_line() as usize)
+}
+
+fn write(seconds: f64, texts: &[Text], step: usize, roomy_most: f64) {
+    for t in texts {
+        let step = step.min(t.tokens.len());
+        let table = table_of(&t.tokens);
+        let chunks = chunks_of(&t.tokens, step);
+        let mut text = String::new();
+        let mut ends = Vec::new();
+        for chunk in &chunks {
+            reach::serialize_mappings(&t.tokens, chunk, &mut text);
+            ends.push(text.len());
+        }
+        let bytes = text.len();
+        let mut wide = vec![0u8; roomy(&t.tokens)];
+        let mut tight = vec![0u8; bytes];
+        write_ours(&table, step, bytes, None, &mut wide)();
+        assert!(wide[..bytes] == *text.as_bytes(), "{}: not the crate's bytes", t.name);
+        let theirs = || plain(write_theirs(&t.tokens, &chunks, bytes, String::with_capacity(roomy(&t.tokens))));
+        let anew = || plain(write_theirs_anew(&t.tokens, &chunks, bytes));
+        let r = timed(seconds, vec![plain(write_ours(&table, step, bytes, None, &mut wide)), theirs(), anew()]);
+        let x = timed(seconds, vec![plain(write_ours(&table, step, bytes, Some(&ends), &mut tight)), theirs(), anew()]);
+        assert!(tight == *text.as_bytes(), "{}: not the crate's bytes", t.name);
+        println!(
+            "{:<10} {:>8} {:>18} {:>18} {:>18} {:>18} {} {:>6}{}{}",
+            t.name,
+            t.tokens.len(),
+            shown(r.ratios[0]),
+            shown(r.ratios[1]),
+            shown(x.ratios[0]),
+            shown(x.ratios[1]),
+            each(r.medians[0], t.tokens.len()),
+            r.runs,
+            over(r.ratios[0].0, roomy_most),
+            over(x.ratios[0].0, 1.6),
+        );
+    }
+}
+
+/// In place, one line further each time: a run in which no sum leaves its range.
+fn translate(seconds: f64) {
+    println!("\ntranslate: in place, by (1, 0, 0); the crate's Token::translated over a slice, which tests nothing");
+    println!("{:>8} {:>18} {:>18} {:>8} {:>6}", "tokens", "table", "records", "ns/token", "runs");
+    for count in [1_000, 10_000, SMALL, 100_000, LARGE] {
+        let mut theirs = made_tokens(Kind::Mixed, count);
+        let mut table = table_of(&theirs);
+        let mut records = table.clone();
+        let mut other = theirs.clone();
+        // The compiler must not know the offsets, or it makes the crate's loop one that moves lines alone.
+        let offsets = || black_box((1u32, 0u32, 0u32));
+        let step = |tokens: &mut [Token]| {
+            let (line, source, name) = offsets();
+            for t in tokens.iter_mut() {
+                *t = reach::translated(*t, line, source, name);
+            }
+            black_box(tokens);
+        };
+        let mut in_table = || {
+            let (line, source, name) = offsets();
+            assert!(library::translate(&mut table, line, source, name).code == 0);
+        };
+        let mut in_records = || {
+            let (line, source, name) = offsets();
+            assert!(library::translate_tokens(&mut records, line, source, name).code == 0);
+        };
+        let a = timed(seconds, vec![plain(&mut in_table), plain(|| step(&mut theirs))]);
+        let b = timed(seconds, vec![plain(&mut in_records), plain(|| step(&mut other))]);
+        println!("{:>8} {:>18} {:>18} {} {:>6}", count, shown(a.ratios[0]), shown(b.ratios[0]), each(a.medians[0], count), a.runs);
+    }
+}
+
+fn list_of(names: &Names) -> Vec<Cow<'static, str>> {
+    let mut from = 0;
+    names
+        .ends
+        .iter()
+        .map(|&to| {
+            let name = String::from_utf8_lossy(&names.text[from..to]).into_owned();
+            from = to;
+            Cow::Owned(name)
+        })
+        .collect()
+}
+
+fn map_of(tokens: &[Token], names: &Names, sources: usize) -> SourceMap<'static> {
+    let sources = (0..sources).map(|i| Cow::Owned(format!("s{i}"))).collect();
+    SourceMap::new(None, list_of(names), None, sources, vec![], tokens.to_vec().into_boxed_slice(), None)
+}
+
+/// Positions of tokens all over a list, a column past each.
+fn log_of(tokens: &[Token], count: usize) -> Vec<(u32, u32)> {
+    let mut r = Random(77);
+    (0..count)
+        .map(|_| {
+            let t = tokens[r.below(tokens.len() as u64) as usize];
+            (t.get_dst_line(), t.get_dst_col() + 1)
+        })
+        .collect()
+}
+
+fn lookup(seconds: f64) {
+    println!("\nlookup: a log of forty positions; the crate with and without the making of its table of lines");
+    println!("{:>8} {:>18} {:>20} {:>12} {:>6}", "tokens", "made each time", "made before", "us/log", "runs");
+    for count in [1_000, 10_000, 100_000, LARGE] {
+        let tokens = made_tokens(Kind::Mixed, count);
+        let table = table_of(&tokens);
+        let map = map_of(&tokens, &Names::default(), 10);
+        let log = log_of(&tokens, 40);
+        let before = map.generate_lookup_table();
+        let ours = || {
+            for &(line, col) in &log {
+                assert!(black_box(library::lookup(&table, line, col)).code == 0);
+            }
+        };
+        let theirs = || {
+            let lines = map.generate_lookup_table();
+            for &(line, col) in &log {
+                assert!(black_box(map.lookup_token(&lines, line, col)).is_some());
+            }
+        };
+        let made = || {
+            for &(line, col) in &log {
+                assert!(black_box(map.lookup_token(&before, line, col)).is_some());
+            }
+        };
+        let r = timed(seconds, vec![plain(ours), plain(theirs), plain(made)]);
+        println!(
+            "{:>8} {:>18} {:>20} {:>12.1} {:>6}",
+            count,
+            shown(r.ratios[0]),
+            format!("{:.0}", r.ratios[1].0),
+            r.medians[0] * 1e6,
+            r.runs
+        );
+    }
+}
+
+fn some_names(prefix: &str, count: usize) -> Names {
+    let mut names = Names::default();
+    for i in 0..count {
+        names.text.extend_from_slice(format!("{prefix}{i}").as_bytes());
+        names.ends.push(names.text.len());
+    }
+    names
+}
+
+/// An outer list of tokens that lead to places of the inner one.
+fn outer_over(inner: &[Token], count: usize) -> Vec<Token> {
+    let mut r = Random(5);
+    log_of(inner, count)
+        .into_iter()
+        .enumerate()
+        .map(|(i, (line, col))| {
+            let name = (r.below(10) < 4).then(|| r.below(200) as u32);
+            Token::new(i as u32 / 20, (i as u32 % 20) * 10, line, col, Some(0), name)
+        })
+        .collect()
+}
+
+fn compose(seconds: f64) {
+    println!("\ncompose: 200 names each; the crate's own copies of its maps are made before the clock runs");
+    println!("{:>8} {:>8} {:>20} {:>12} {:>6}", "outer", "inner", "ratio", "us", "runs");
+    for (n, m) in [(40, 100_000), (500, 500), (1_000, 1_000), (2_000, 2_000), (4_000, 4_000), (8_000, 8_000)] {
+        let inner = made_tokens(Kind::Mixed, m);
+        let outer = outer_over(&inner, n);
+        let (inner_names, outer_names) = (some_names("i", 200), some_names("o", 200));
+        let (inner_table, outer_table) = (table_of(&inner), table_of(&outer));
+        let mut result = vec![0u32; outer_table.len()];
+        let mut added = vec![0u32; 200];
+        let (inner_map, outer_map) = (map_of(&inner, &inner_names, 10), map_of(&outer, &outer_names, 1));
+        let ours =
+            || assert!(library::compose(&outer_table, &outer_names, &inner_table, &inner_names, &mut result, &mut added).code == 0);
+        let theirs = after(
+            || (outer_map.clone(), inner_map.clone()),
+            |(outer, inner)| {
+                black_box(outer.compose(inner));
+            },
+        );
+        let r: Timed = timed(seconds, vec![plain(ours), theirs]);
+        println!(
+            "{:>8} {:>8} {:>20} {:>12.1} {:>6}",
+            n,
+            m,
+            format!("{:.1} ({:.1}-{:.1})", r.ratios[0].0, r.ratios[0].1, r.ratios[0].2),
+            r.medians[0] * 1e6,
+            r.runs
+        );
+    }
+}
+
+/// Short texts, where what a call costs by itself shows.
+fn small(seconds: f64) {
+    println!("\nsmall texts: decoding, one call");
+    println!("{:>8} {:>8} {:>18} {:>8} {:>6}", "bytes", "tokens", "ratio", "ns", "runs");
+    for count in [0, 1, 4, 20, 100] {
+        let t = made("small", Kind::Mixed, count);
+        let mut table = vec![0u32; count * 6];
+        let r = timed(seconds, vec![plain(decode_ours(&t, &mut table)), plain(decode_theirs(&t))]);
+        println!("{:>8} {:>8} {:>18} {:>8.0} {:>6}", t.text.len(), count, shown(r.ratios[0]), r.medians[0] * 1e9, r.runs);
+    }
+}
+
+/// What is counted: callgrind looks at this alone.
+#[unsafe(no_mangle)]
+#[inline(never)]
+pub extern "C" fn counted(run: &mut Thing) {
+    run(1);
+}
+
+const COUNTED: [&str; 5] = ["ours", "crate", "write-ours", "write-exact", "write-crate"];
+
+fn count(part: &str, t: &Text) -> Result<(), String> {
+    let mut table = vec![0u32; t.tokens.len() * 6];
+    let given = table_of(&t.tokens);
+    let chunks = [whole(&t.tokens)];
+    let mut text = String::new();
+    reach::serialize_mappings(&t.tokens, &chunks[0], &mut text);
+    let all = t.tokens.len();
+    let mut wide = vec![0u8; roomy(&t.tokens)];
+    let mut tight = vec![0u8; text.len()];
+    let mut thing = match part {
+        "ours" => plain(decode_ours(t, &mut table)),
+        "crate" => plain(decode_theirs(t)),
+        "write-ours" => plain(write_ours(&given, all, text.len(), None, &mut wide)),
+        "write-exact" => plain(write_ours(&given, all, text.len(), None, &mut tight)),
+        "write-crate" => plain(write_theirs(&t.tokens, &chunks, text.len(), String::with_capacity(roomy(&t.tokens)))),
+        _ => return Err(format!("no part {part}")),
+    };
+    counted(&mut thing);
+    Ok(())
+}
+
+fn main() -> Result<(), String> {
+    let mut corpus = PathBuf::from("../shared/corpus");
+    let mut seconds = 2.0;
+    let mut words = Vec::new();
+    let mut given = std::env::args().skip(1);
+    while let Some(word) = given.next() {
+        let mut next = || given.next().ok_or(format!("{word} wants a word after it"));
+        match word.as_str() {
+            "--corpus" => corpus = next()?.into(),
+            "--seconds" => seconds = next()?.parse().map_err(|_| "--seconds wants a number")?,
+            _ => words.push(word),
+        }
+    }
+    let reals = |corpus: &Path| {
+        real_texts(corpus).unwrap_or_else(|e| {
+            println!("(no real maps: {e})");
+            Vec::new()
+        })
+    };
+    let in_cache = || made_texts(SMALL, "2e4");
+    if words.first().is_some_and(|w| w.starts_with("count")) {
+        let texts: Vec<Text> = in_cache().into_iter().chain(reals(&corpus)).collect();
+        if let [_, part, name] = &words[..] {
+            let text = texts.iter().find(|t| t.name == *name).ok_or(format!("no text {name}"))?;
+            return count(part, text);
+        }
+        for part in COUNTED {
+            for t in &texts {
+                println!("{part} {} {}", t.name, t.tokens.len());
+            }
+        }
+        return Ok(());
+    }
+    let parts = ["decode", "write", "chunks", "translate", "lookup", "compose", "small"];
+    if let Some(word) = words.iter().find(|w| !parts.contains(&w.as_str())) {
+        return Err(format!("no part {word}: {}", parts.join(" ")));
+    }
+    let asked = |part: &str| words.is_empty() || words.iter().any(|w| w == part);
+    println!("ours / crate: the ratio of medians over runs in turn, and in brackets the quartiles of the ratios of neighbouring runs.");
+    println!("Lent tables and texts are reused and not cleared between runs, and every page of them is touched before.");
+    if asked("decode") {
+        println!("\ndecode: the crate allocates its table in each call ('reused': from memory that it freed before). To reach: 0.9, 1e6 aside");
+        println!(
+            "{:<10} {:>8} {:>9} {:>18} {:>18} {:>14} {:>8} {:>6}",
+            "text", "tokens", "bytes", "ratio", "reused", "checked/ours", "ns/token", "runs"
+        );
+        decode(seconds, &in_cache(), 0.9);
+        decode(seconds, &made_texts(LARGE, "1e6"), f64::INFINITY);
+        decode(seconds, &reals(&corpus), 0.9);
+    }
+    for (part, step) in [("write", usize::MAX), ("chunks", 64)] {
+        if asked(part) {
+            let how = if part == "write" { "in one call" } else { "in chunks of 64 tokens, each from the state before it" };
+            println!("\n{part}: {how}; 'anew': the crate allocates its text. To reach: roomy 1.0, tables larger than the cache 1.2; exact 1.6");
+            println!(
+                "{:<10} {:>8} {:>18} {:>18} {:>18} {:>18} {:>8} {:>6}",
+                "text", "tokens", "roomy", "roomy, anew", "exact", "exact, anew", "ns/token", "runs"
+            );
+            write(seconds, &in_cache(), step, 1.0);
+            write(seconds, &made_texts(LARGE, "1e6"), step, 1.2);
+            write(seconds, &reals(&corpus), step, 1.2);
+        }
+    }
+    if asked("translate") {
+        translate(seconds);
+    }
+    if asked("lookup") {
+        lookup(seconds);
+    }
+    if asked("compose") {
+        compose(seconds);
+    }
+    if asked("small") {
+        small(seconds);
+    }
+    Ok(())
+}

@@ -1,5 +1,5 @@
 -- The scan: at turn i the best of the first i tokens is kept, with its column. Assumes nothing.
-use mathlib.Core.Path.{_≡_, refl, sym, _∙_, ap}
+use mathlib.Core.Path.{_≡_, refl, sym, _∙_, ap, subst}
 use mathlib.Core.Bool.{Bool, true, false}
 use mathlib.Core.List.{List}
 use mathlib.Core.Option.{Option, none, some}
@@ -24,12 +24,15 @@ module _ (t : Token) (line col least : ℕ) where
   pub other-line : (t .«dst_line» ≡ line → ⊥) → false ≡ takesOf t line col least
   other-line ne = simp (ne-eqb (t .«dst_line») line ne)
 
-  module _ (on : t .«dst_line» ≡ line) where
-    pub past-it : col < t .«dst_col» → false ≡ takesOf t line col least
-    past-it h = simp (eq-eqb (t .«dst_line») line on, lt-leb (t .«dst_col») col h)
+  -- u is the token as it was read
+  module _ (u : Token) (is : u ≡ t) (on : t .«dst_line» ≡ line) where
+    pub past-it : col < u .«dst_col» → false ≡ takesOf t line col least
+    past-it h = simp (eq-eqb (t .«dst_line») line on, lt-leb (t .«dst_col») col (subst (λ (v : Token). col < v .«dst_col») is h))
 
-    pub by-column : t .«dst_col» ≤ col → leb least (t .«dst_col») ≡ takesOf t line col least
-    by-column h = simp (eq-eqb (t .«dst_line») line on, le-leb (t .«dst_col») col h)
+    pub by-column : u .«dst_col» ≤ col → leb least (u .«dst_col») ≡ takesOf t line col least
+    by-column h =
+        ap (λ (v : Token). leb least (v .«dst_col»)) is
+        ∙ simp (eq-eqb (t .«dst_line») line on, le-leb (t .«dst_col») col (subst (λ (v : Token). v .«dst_col» ≤ col) is h))
 
 -- the column that the next token must reach
 abbrev leastOf : List ℕ → Option ℕ → ℕ
@@ -53,13 +56,13 @@ module _ (table : List ℕ) where
 
 module _ (table : List ℕ) (line col : ℕ) where
   -- one more token
-  next : (i : ℕ) (t : Token) → t ≡ tokenAt table i
-      → bestOf table line col (i + 1) ≡ pick (takesOf t line col (leastOf table (bestOf table line col i))) (some i) (bestOf table line col i)
+  next : (i : ℕ)
+      → bestOf table line col (i + 1) ≡ pick (takesOf (tokenAt table i) line col (leastOf table (bestOf table line col i))) (some i) (bestOf table line col i)
   unfolding bestOf
-  next i t et =
+  next i =
       let o = bestOf table line col i in
       let u = tokenAt table i in
-      rw (add-one i, et)
+      rw (add-one i)
       (ap (λ (p : Option ℕ). pick (fits table line col i) p o) (later-is table i o)
       ∙ taken (eqb (u .«dst_line») line) (leb (u .«dst_col») col) (leb (leastOf table o) (u .«dst_col»)) (some i) o)
 
@@ -85,16 +88,16 @@ module _ (table : List ℕ) (line col : ℕ) where
       pub index-fits : badTable (length table) ≡ false → i < 4294967295
       index-fits e = omega (arith, few (length table) e, f .counted)
 
-      module _ (t : Token) (et : t ≡ tokenAt table i) where
-        then : (b : Bool) → b ≡ takesOf t line col least → bestOf table line col (i + 1) ≡ pick b (some i) (bestOf table line col i)
-        then b eb = next i t et ∙ ap (λ (c : Bool). pick c (some i) (bestOf table line col i)) (ap (takesOf t line col) (sym (f .reaches)) ∙ sym eb)
+      then : (b : Bool) → b ≡ takesOf (tokenAt table i) line col least → bestOf table line col (i + 1) ≡ pick b (some i) (bestOf table line col i)
+      then b eb = next i ∙ ap (λ (c : Bool). pick c (some i) (bestOf table line col i)) (ap (takesOf (tokenAt table i) line col) (sym (f .reaches)) ∙ sym eb)
 
-        pub takes : true ≡ takesOf t line col least → Scanned all (Found.At i) (t .«dst_col») (i + 1)
-        takes e =
-            let o = then true e in
-            record { counted = f .counted; within = omega arith; found = sym (ap foundOf o); reaches = ap (λ (u : Token). u .«dst_col») et ∙ sym (ap (leastOf table) o) }
+      -- t is the token as it was read
+      pub takes : true ≡ takesOf (tokenAt table i) line col least → (t : Token) → t ≡ tokenAt table i → Scanned all (Found.At i) (t .«dst_col») (i + 1)
+      takes e t et =
+          let o = then true e in
+          record { counted = f .counted; within = omega arith; found = sym (ap foundOf o); reaches = ap (λ (u : Token). u .«dst_col») et ∙ sym (ap (leastOf table) o) }
 
-        pub leaves : false ≡ takesOf t line col least → Scanned all best least (i + 1)
-        leaves e =
-            let o = then false e in
-            record { counted = f .counted; within = omega arith; found = f .found ∙ sym (ap foundOf o); reaches = f .reaches ∙ sym (ap (leastOf table) o) }
+      pub leaves : false ≡ takesOf (tokenAt table i) line col least → Scanned all best least (i + 1)
+      leaves e =
+          let o = then false e in
+          record { counted = f .counted; within = omega arith; found = f .found ∙ sym (ap foundOf o); reaches = f .reaches ∙ sym (ap (leastOf table) o) }

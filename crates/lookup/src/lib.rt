@@ -1,11 +1,11 @@
 // Finds the token at a generated position.
-use token::Token;
 ghost use mathlib.Core.Path.{_≡_};
 ghost use mathlib.Core.Bool.{false};
+ghost use Prim.Native.Nat.{_<_};
 ghost use lib.Dec.{eqb, leb};
 ghost use lib.ListN.{length};
 ghost use Rattle.list.specs.Pick.{both};
-ghost use Rattle.token.specs.Table.{badTable};
+ghost use Rattle.token.specs.Table.{badTable, places, tokenAt};
 ghost use Rattle.lookup.specs.Lookup.{Looks, lookupOf, foundOf, foundCode, foundNumber};
 
 // The index of the token that is found, or why there is none.
@@ -37,13 +37,16 @@ pub fn found_number(f: Found) -> u64
     }
 }
 
-// Whether the next token is taken in place of the best so far; `least` is that one's column, 0 where there is none.
-fn takes(t: Token, line: u32, col: u32, least: u32) -> bool
-    ensures { λ r. ⌜ r ≡ both (eqb (t .«dst_line») line) (both (leb (t .«dst_col») col) (leb least (t .«dst_col»))) ⌝ }
+// Whether the token at `i` is taken in place of the best so far; `least` is that one's column, 0 where there is none. Most tokens
+// are on another line: nothing else of them is read.
+fn takes(table: &[u32], i: usize, line: u32, col: u32, least: u32) -> bool
+    requires { ⌜ i < places (length (now table)) ⌝ }
+    ensures { λ r. ⌜ r ≡ both (eqb (tokenAt (now (table .entry)) i .«dst_line») line) (both (leb (tokenAt (now (table .entry)) i .«dst_col») col) (leb least (tokenAt (now (table .entry)) i .«dst_col»))) ⌝ }
 {
-    if t.dst_line != line {
+    if token::line_at(table, i) != line {
         return false;
     }
+    let t = token::token_at(table, i);
     if col < t.dst_col {
         return false;
     }
@@ -60,9 +63,9 @@ pub fn look_in(table: &[u32], line: u32, col: u32) -> Found
     let mut least: u32 = 0;
     let mut i: usize = 0;
     while i < places {
-        let t = token::token_at(table, i);
-        if takes(t, line, col, least) {
+        if takes(table, i, line, col, least) {
             best = Found::At(i as u32);
+            let t = token::token_at(table, i);
             least = t.dst_col;
         }
         i += 1;

@@ -68,6 +68,14 @@ pub fn token_at(table: &[u32], i: usize) -> Token
     }
 }
 
+// The generated line of a token, with nothing else of it read.
+pub fn line_at(table: &[u32], i: usize) -> u32
+    requires { ⌜ i < places (length (now table)) ⌝ }
+    ensures { λ r. ⌜ r ≡ tokenAt (now (table .entry)) i .«dst_line» ⌝ }
+{
+    table[WIDTH * i]
+}
+
 pub fn put_token(table: &mut [u32], i: usize, t: Token)
     requires { ⌜ i < places (length (now table)) ⌝ }
     ensures { λ _. ⌜ now (table .exit) ≡ putToken (now (table .entry)) i t ⌝ }

@@ -13,10 +13,9 @@ use Rattle.code.specs.declared.Code.{Code}
 use Rattle.token.specs.Table.{places, badTable}
 use Rattle.token.specs.declared.TokenChunk.{TokenChunk}
 use Rattle.encode.specs.Encode.{bytesIn, refused, encoded, Encodes}
-use Rattle.encode.specs.Passes.{Inside, Rising, Lined, Bounds, Writable, Writes}
+use Rattle.encode.specs.Passes.{Inside, Bounded, Suffices, Writable, Writes}
+use Rattle.encode.specs.declared.Count.{Count}
 use Rattle.encode.specs.declared.Encoded.{Encoded}
-use Rattle.encode.specs.declared.Order.{Order}
-use Rattle.encode.specs.declared.Order.the-variants.{Back, Forth}
 
 pub inside : (table : List ℕ) (c : TokenChunk) (n : ℕ) → n ≡ places (length table) → c .start ≤ c .end → c .end ≤ n → Inside table c
 inside table c n en h k = record { order = h; within = rw en at k }
@@ -43,33 +42,32 @@ module _ (table : List ℕ) (c : TokenChunk) (out : List ℕ) where
         let k′ : places (length table) < c .end = rw en at k in
         by (refused c Code.BadChunk) (rw (t, le-ltb _ _ h, lt-ltb _ _ k′)) out refl
 
-    module _ (h : Inside table c) (l : Order) (ll : Lined table c l) where
-      pub goes-back : (i : ℕ) → l ≡ Back i → (r : Encoded) → r ≡ refused c (Code.LineGoesBack i) → Encodes table c out r out
-      unfolding encoded Lined
+    module _ (h : Inside table c) (l : Count) (ll : Suffices table c (length out) l) where
+      pub goes-back : (i : ℕ) → l ≡ Count.Back i → (r : Encoded) → r ≡ refused c (Code.LineGoesBack i) → Encodes table c out r out
+      unfolding encoded Suffices
       goes-back i e =
-          let b = subst (Lined table c) e ll in
+          let b = subst (Suffices table c (length out)) e ll in
           by (refused c (Code.LineGoesBack i)) (rw (t, le-ltb _ _ (h .order), le-ltb _ _ (h .within), b)) out refl
 
-      module _ (last : ℕ) (e : l ≡ Forth last) where
-        pub rising : Rising table c last
-        unfolding Lined
-        rising = subst (Lined table c) e ll
+      -- needed is the count as the code has it
+      module _ (needed : ℕ) (e : l ≡ Count.Needs needed) where
+        bounded : Bounded table c (length out) needed
+        unfolding Suffices
+        bounded = subst (Suffices table c (length out)) e ll
 
-        -- needed is the count as the code has it
-        module _ (needed : ℕ) (b : Bounds (length (bytesIn table c)) (length out) needed) where
-          pub no-room : length out < needed → (r : Encoded) → r ≡ refused c (Code.NoRoom needed) → Encodes table c out r out
+        pub no-room : length out < needed → (r : Encoded) → r ≡ refused c (Code.NoRoom needed) → Encodes table c out r out
+        unfolding encoded
+        no-room k r er =
+            let q = bounded .bounds .exact k in
+            let k′ : length out < length (bytesIn table c) = rw q at k in
+            by (refused c (Code.NoRoom (length (bytesIn table c))))
+            (rw (t, le-ltb _ _ (h .order), le-ltb _ _ (h .within), bounded .forth, lt-ltb _ _ k′)) out refl r (rw q at er)
+
+        module _ (k : needed ≤ length out) where
+          pub writable : Writable table c out
+          writable = record { inside = h; forth = bounded .forth; room = bounded .bounds .enough k }
+
+          pub done : (r : Encoded) (out′ : List ℕ) → Writes table c out r out′ → Encodes table c out r out′
           unfolding encoded
-          no-room k r er =
-              let q = b .exact k in
-              let k′ : length out < length (bytesIn table c) = rw q at k in
-              by (refused c (Code.NoRoom (length (bytesIn table c))))
-              (rw (t, le-ltb _ _ (h .order), le-ltb _ _ (h .within), rising .forth, lt-ltb _ _ k′)) out refl r (rw q at er)
-
-          module _ (k : needed ≤ length out) where
-            pub writable : Writable table c out
-            writable = record { inside = h; forth = rising .forth; room = b .enough k }
-
-            pub done : (r : Encoded) (out′ : List ℕ) → Writes table c out r out′ → Encodes table c out r out′
-            unfolding encoded
-            done r out′ w =
-                by _ (rw (t, le-ltb _ _ (h .order), le-ltb _ _ (h .within), rising .forth, le-ltb _ _ (b .enough k))) out′ (w .wrote) r (w .says)
+          done r out′ w =
+              by _ (rw (t, le-ltb _ _ (h .order), le-ltb _ _ (h .within), bounded .forth, le-ltb _ _ (bounded .bounds .enough k))) out′ (w .wrote) r (w .says)

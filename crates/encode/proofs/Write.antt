@@ -1,9 +1,11 @@
 -- The pass that writes, as laws of the definitions. Assumes nothing.
-use mathlib.Core.Path.{_≡_, refl, _∙_}
+use mathlib.Core.Path.{_≡_, refl, sym, _∙_}
 use mathlib.Core.List.{List, _++_}
-use Prim.Native.Nat.{ℕ, _+_, _-_, _≤_, _<_}
+use mathlib.Core.Option.{none, some}
+use Prim.Native.Nat.{ℕ, _+_, _≤_, _<_}
 use native.Mathlib.Omega.{arith}
-use native.Mathlib.Nat.{zero-add}
+use native.Mathlib.Decide.{decLe}
+use native.Mathlib.Nat.{zero-add, lt-of-not-le}
 use lib.Dec.{eqb}
 use lib.ListN.{length}
 use Rattle.list.specs.Memory.{onto, blit}
@@ -15,9 +17,35 @@ use Rattle.vlq_write.specs.Put.{Put}
 use Rattle.vlq_write.proofs.Put.{Due, due-all, due-is, due-same, due-none, due-fits, due-put}
 use Rattle.chunk.specs.Chunk.{bytesOf, after, endOf}
 use Rattle.encode.specs.Encode.{tokensIn, bytesIn, moved}
-use Rattle.encode.specs.Passes.{Writable, Writes}
-use Rattle.chunk.proofs.Lists.{left, bytes, bytes-next, bytes-none, end-next, end-none}
-use Rattle.encode.proofs.Measure.{Forward, forward-line, forward-next}
+use Rattle.encode.specs.Passes.{Inside, Writable, Writes}
+use Rattle.chunk.proofs.State.{after-line}
+use Rattle.chunk.proofs.Lists.{left, back, bytes, back-here, back-next, bytes-next, bytes-none, end-next, end-none}
+
+not-back : {i : ℕ} → some i ≡ none → ⊥
+not-back e = let z : _≡_ {A = ℕ} 0 1 = cc in omega arith
+
+-- from i, where the state is p, no line goes back
+pub record Forward (table : List ℕ) (c p : TokenChunk) (i : ℕ) : Type 0 where
+  pub inside : Inside table c
+  pub before-end : i ≤ c .end
+  pub forth : back table (c .end) i (p .«prev_dst_line») ≡ none
+
+module _ (table : List ℕ) (c p : TokenChunk) (i : ℕ) (f : Forward table c p i) (t : Token) (et : t ≡ tokenAt table i) (h : i < c .end) where
+  -- the next line does not go back either
+  forward-line : p .«prev_dst_line» ≤ t .«dst_line»
+  forward-line =
+      elim (decLe (p .«prev_dst_line») (t .«dst_line»)) [
+        | yes b ↦ b
+        | no b ↦ absurd (not-back (sym (back-here table (c .end) i t et h (p .«prev_dst_line») (lt-of-not-le b)) ∙ f .forth))
+      ]
+
+  forward-next : Forward table c (after p t) (i + 1)
+  forward-next =
+      record {
+        inside = f .inside;
+        before-end = omega arith;
+        forth = rw (after-line p t) (sym (back-next table (c .end) i t et h (p .«prev_dst_line») forward-line) ∙ f .forth);
+      }
 
 -- a run put at the start
 pub put-onto : (out bs : List ℕ) (r : ℕ) (out′ : List ℕ) → Put out 0 bs r out′ → (r ≡ length bs) × (out′ ≡ onto bs out)

@@ -2,10 +2,9 @@
 use code::Code;
 use token::TokenChunk;
 ghost use mathlib.Core.Path.{_≡_};
-ghost use lib.ListN.{length};
 ghost use Rattle.digits.specs.Digits.{writing};
-ghost use Rattle.encode.specs.Encode.{bytesIn, moved, refused, Encodes};
-ghost use Rattle.encode.specs.Passes.{Inside, Lined, Rising, Bounds, Measurable, Writable, Writes};
+ghost use Rattle.encode.specs.Encode.{moved, refused, Encodes};
+ghost use Rattle.encode.specs.Passes.{Inside, Lined, Measures, Suffices, Writable, Writes};
 
 // The code; the bytes written, 0 for a refusal; and the chunk's end state, or the chunk as it was given for a refusal.
 pub struct Encoded {
@@ -18,6 +17,12 @@ pub struct Encoded {
 enum Order {
     Back(u32),
     Forth(u32),
+}
+
+// The first token whose line goes back, or the bytes that are needed.
+enum Count {
+    Back(u32),
+    Needs(u64),
 }
 
 fn refused(chunk: TokenChunk, code: Code) -> Encoded
@@ -64,21 +69,24 @@ fn lines(table: &[u32], chunk: TokenChunk) -> Order
     Order::Forth(line)
 }
 
-// The pass that counts the bytes, where the bound does not say enough.
-fn measured(table: &[u32], chunk: TokenChunk) -> u64
-    requires { ⌜ Measurable (now table) chunk ⌝ }
-    ensures { λ r. ⌜ r ≡ length (bytesIn (now (table .entry)) chunk) ⌝ }
+// The pass that looks at the lines and counts the bytes, where a bound does not say enough.
+fn measured(table: &[u32], chunk: TokenChunk) -> Count
+    requires { ⌜ Inside (now table) chunk ⌝ }
+    ensures { λ r. ⌜ Measures (now (table .entry)) chunk r ⌝ }
 {
     let mut p = chunk;
     let mut i = chunk.start as usize;
     let mut n: u64 = 0;
     while i < chunk.end as usize {
         let t = token::token_at(table, i);
+        if t.dst_line < p.prev_dst_line {
+            return Count::Back(i as u32);
+        }
         n += chunk::token_size(i == 0, p, t);
         p = chunk::after(p, t);
         i += 1;
     }
-    n
+    Count::Needs(n)
 }
 
 // Writes a chunk that fits and whose lines do not go back.
@@ -103,15 +111,26 @@ fn write_all(w: &[u8; 64], table: &[u32], chunk: TokenChunk, out: &mut [u8]) -> 
     }
 }
 
-// A bound that the room holds spares measuring: 36 bytes for each token and one for each line advanced.
-fn bytes_most(table: &[u32], chunk: TokenChunk, last: u32, room: u64) -> u64
+// A bound that the room holds spares measuring: 36 bytes for each token and one for each line advanced. Where not even
+// the first part of it fits, one pass does both.
+fn needed(table: &[u32], chunk: TokenChunk, room: u64) -> Count
     requires { ⌜ Inside (now table) chunk ⌝ }
-    requires { ⌜ Rising (now table) chunk last ⌝ }
-    ensures { λ r. ⌜ Bounds (length (bytesIn (now (table .entry)) chunk)) room r ⌝ }
+    ensures { λ r. ⌜ Suffices (now (table .entry)) chunk room r ⌝ }
 {
-    let most = (chunk.end - chunk.start) as u64 * 36 + (last - chunk.prev_dst_line) as u64;
+    let most = (chunk.end - chunk.start) as u64 * 36;
     if most <= room {
-        return most;
+        let l = lines(table, chunk);
+        match l {
+            Order::Back(i) => {
+                return Count::Back(i);
+            }
+            Order::Forth(last) => {
+                let with = most + (last - chunk.prev_dst_line) as u64;
+                if with <= room {
+                    return Count::Needs(with);
+                }
+            }
+        }
     }
     measured(table, chunk)
 }
@@ -129,11 +148,10 @@ pub fn serialize_mappings(table: &[u32], chunk: TokenChunk, out: &mut [u8]) -> E
     if token::places_in(table.len()) < chunk.end as usize {
         return refused(chunk, Code::BadChunk);
     }
-    let l = lines(table, chunk);
-    match l {
-        Order::Back(i) => refused(chunk, Code::LineGoesBack(i)),
-        Order::Forth(last) => {
-            let needed = bytes_most(table, chunk, last, out.len() as u64);
+    let c = needed(table, chunk, out.len() as u64);
+    match c {
+        Count::Back(i) => refused(chunk, Code::LineGoesBack(i)),
+        Count::Needs(needed) => {
             if (out.len() as u64) < needed {
                 return refused(chunk, Code::NoRoom(needed));
             }

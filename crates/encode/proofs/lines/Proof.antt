@@ -22,7 +22,7 @@ cast-if1 : tie.Need-cast-if1 Inv-loop μ-loop
 cast-if1 c = search needs
 
 token-at-requires : tie.Need-token-at-requires Inv-loop μ-loop
-token-at-requires c κs = omega (arith, c .before .before .loop .inv .inside .within)
+token-at-requires c κs = omega (arith, c .before .before .loop .inv .counts .inside .within)
 
 cast-t8 : tie.Need-cast-t8 Inv-loop μ-loop
 cast-t8 c = omega (arith, c .before .before .before .before .before .before .struct-known .given .1 .0 .fits)

@@ -1,11 +1,11 @@
 use mathlib.Core.Bool.{false}
-use lib.ListN.{length}
-use Rattle.token.specs.Table.{badTable}
-use Rattle.encode.specs.Passes.{Inside}
 use mathlib.Core.Path.{_≡_, refl, sym, _∙_}
-use Rattle.digits.specs.Digits.{writing}
-use Rattle.encode.proofs.Answer.{inside, bad-table, out-of-order, out-of-table, goes-back, rising, no-room, writable, done}
+use lib.ListN.{length}
 use borrow.Author.Needs.{needs}
+use Rattle.token.specs.Table.{badTable}
+use Rattle.digits.specs.Digits.{writing}
+use Rattle.encode.specs.Passes.{Inside}
+use Rattle.encode.proofs.Answer.{inside, bad-table, out-of-order, out-of-table, goes-back, no-room, writable, done}
 use Rattle.encode.proofs.serialize_mappings.Statement.{statement}
 use Rattle.encode.proofs.serialize_mappings.Tie as tie
 
@@ -43,39 +43,36 @@ refused-requires-3 c κs = search needs
 returns-3 : tie.Need-returns-3
 returns-3 c = out-of-table _ _ _ (sym (c .before .before .before .before .before .before .before .bad-table .ensures) ∙ c .before .before .before .before .before .before .if1 .left) _ (c .before .before .before .places-in .ensures) (c .before .before .before .before .if2 .left) (c .before .if3 .taken) _ (c .refused3 .ensures)
 
-lines-requires : tie.Need-lines-requires
-lines-requires c κs = search needs
+needed-requires : tie.Need-needed-requires
+needed-requires c κs = within c
 
-enum-known-l : tie.Need-enum-known-l
-enum-known-l c = search needs
+enum-known-c : tie.Need-enum-known-c
+enum-known-c c = search needs
 
 refused-requires-4 : tie.Need-refused-requires-4
 refused-requires-4 c κs = search needs
 
-enum-known-l-2 : tie.Need-enum-known-l-2
-enum-known-l-2 c = search needs
-
-bytes-most-requires : tie.Need-bytes-most-requires
-bytes-most-requires c κs = (within (c .before .before .before .before), rising _ _ (c .before .before .before .before .before .before .before .before .before .before .before .before .before .args .out .now) (good (c .before .before .before .before)) (within (c .before .before .before .before)) _ (c .before .before .before .lines .ensures) _ (c .before .l2 .given .1))
+enum-known-c-2 : tie.Need-enum-known-c-2
+enum-known-c-2 c = search needs
 
 refused-requires-5 : tie.Need-refused-requires-5
 refused-requires-5 c κs = search needs
 
 returns-4 : tie.Need-returns-4
-returns-4 c = no-room _ _ _ (good (c .before .before .before .before .before .before .before)) (within (c .before .before .before .before .before .before .before)) _ (c .before .before .before .before .before .before .lines .ensures) _ (c .before .before .before .before .l2 .given .1) _ (c .before .before .bytes-most .ensures) (c .before .if4 .taken) _ (c .refused5 .ensures)
+returns-4 c = no-room _ _ _ (good (c .before .before .before .before .before .before)) (within (c .before .before .before .before .before .before)) _ (c .before .before .before .before .before .needed .ensures) _ (c .before .before .before .c2 .given .1) (c .before .if4 .taken) _ (c .refused5 .ensures)
 
 write-all-requires : tie.Need-write-all-requires
 unfolding writing
-write-all-requires c κs = (refl, writable _ _ _ (good (c .before .before .before .before .before .before .before .before)) (within (c .before .before .before .before .before .before .before .before)) _ (c .before .before .before .before .before .before .before .lines .ensures) _ (c .before .before .before .before .before .l2 .given .1) _ (c .before .before .before .bytes-most .ensures) (c .before .before .if4 .left))
+write-all-requires c κs = (refl, writable _ _ _ (good (c .before .before .before .before .before .before .before)) (within (c .before .before .before .before .before .before .before)) _ (c .before .before .before .before .before .before .needed .ensures) _ (c .before .before .before .before .c2 .given .1) (c .before .before .if4 .left))
 
 returns-5 : tie.Need-returns-5
-returns-5 c = goes-back _ _ _ (good (c .before .before .before .before .before)) (within (c .before .before .before .before .before)) _ (c .before .before .before .before .lines .ensures) _ (c .before .before .l .given .1) _ (c .refused4 .ensures)
+returns-5 c = goes-back _ _ _ (good (c .before .before .before .before .before)) (within (c .before .before .before .before .before)) _ (c .before .before .before .before .needed .ensures) _ (c .before .before .c .given .1) _ (c .refused4 .ensures)
 
 same-length : tie.Need-same-length
 same-length c = search needs
 
 returns-6 : tie.Need-returns-6
-returns-6 c = done _ _ _ (good (c .before .before .before .before .before .before .before .before .before .before .before)) (within (c .before .before .before .before .before .before .before .before .before .before .before)) _ (c .before .before .before .before .before .before .before .before .before .before .lines .ensures) _ (c .before .before .before .before .before .before .before .before .l2 .given .1) _ (c .before .before .before .before .before .before .bytes-most .ensures) (c .before .before .before .before .before .if4 .left) _ _ (c .before .before .write-all .ensures)
+returns-6 c = done _ _ _ (good (c .before .before .before .before .before .before .before .before .before .before)) (within (c .before .before .before .before .before .before .before .before .before .before)) _ (c .before .before .before .before .before .before .before .before .before .needed .ensures) _ (c .before .before .before .before .before .before .before .c2 .given .1) (c .before .before .before .before .before .if4 .left) _ _ (c .before .before .write-all .ensures)
 
 pub serialize-mappings-spec : {M : Type 1} → statement M
 serialize-mappings-spec =
@@ -90,11 +87,10 @@ serialize-mappings-spec =
     cast-if3
     refused-requires-3
     returns-3
-    lines-requires
-    enum-known-l
+    needed-requires
+    enum-known-c
     refused-requires-4
-    enum-known-l-2
-    bytes-most-requires
+    enum-known-c-2
     refused-requires-5
     returns-4
     write-all-requires

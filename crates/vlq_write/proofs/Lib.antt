@@ -1,5 +1,6 @@
 pub mod Back
 pub mod Digits
+pub mod FewDigits
 pub mod Loop
 pub mod Put
 pub mod Sizes

@@ -42,3 +42,11 @@ module _ (out₀ : List ℕ) (at num : ℕ) (out : List ℕ) (n i : ℕ) (w : Wr
   last d ed h =
       let e : digitsOf (w .steps) n ≡ d ∷ [] = digits-last (w .steps) n h ∙ ap (λ (x : ℕ). x ∷ []) (sym ed) in
       due-none out₀ at (writeOf num) [] (i + 1) (set out i d) (put d [] e) refl
+
+-- one digit and no loop; d is the digit as the code has it
+module _ (out : List ℕ) (at num : ℕ) (h : at + length (writeOf num) ≤ length out) where
+  pub one-fits : at < length out
+  one-fits = inside out at num out num at (start out at num h)
+
+  pub one : num < 32 → (d : ℕ) → d ≡ charOf num → Put out at (writeOf num) (at + 1) (set out at d)
+  one l d ed = last out at num out num at (start out at num h) d ed l

@@ -13,7 +13,7 @@ use Rattle.vlq_write.proofs.Digits.{size-one, size-more, step-most}
 use Rattle.vlq_write.proofs.Values.{value-small}
 
 -- one order or the other
-either {ℓ} : {X : Type ℓ} (a b : ℕ) → (a < b → X) → (b ≤ a → X) → X
+pub either {ℓ} : {X : Type ℓ} (a b : ℕ) → (a < b → X) → (b ≤ a → X) → X
 either a b f g = elim (decLe b a) [ yes h ↦ g h | no h ↦ f (lt-of-not-le h) ]
 
 -- one digit more for each five bits more
@@ -33,10 +33,10 @@ under v m h = record { is = rw (lt-ltb v m h); flag = omega arith }
 pub over : (v m : ℕ) → m ≤ v → Reaches v m 1
 over v m h = record { is = rw (le-ltb v m h); flag = omega arith }
 
-is-under : (v m a : ℕ) → Reaches v m a → v < m → a ≡ 0
+pub is-under : (v m a : ℕ) → Reaches v m a → v < m → a ≡ 0
 is-under v m a r h = r .is ∙ rw (lt-ltb v m h)
 
-is-over : (v m a : ℕ) → Reaches v m a → m ≤ v → a ≡ 1
+pub is-over : (v m a : ℕ) → Reaches v m a → m ≤ v → a ≡ 1
 is-over v m a r h = r .is ∙ rw (le-ltb v m h)
 
 -- one digit or two

@@ -1,11 +1,12 @@
 // Writes one value in the fewest digits.
 ghost use mathlib.Core.Path.{_≡_};
 ghost use Prim.Native.Nat.{_+_, _-_, _^_, _<_, _≤_};
-ghost use lib.Dec.{ltb};
+ghost use lib.Dec.{ltb, eqb};
 ghost use lib.ListN.{length};
 ghost use Rattle.list.specs.Pick.{pick};
 ghost use Rattle.digits.specs.Digits.{writing};
 ghost use Rattle.vlq_write.specs.Put.{Put};
+ghost use Rattle.vlq_write.specs.Few.{Few, GoesOn, lowChar};
 ghost use Rattle.vlq_write.specs.Size.{Reaches, StepSize};
 ghost use Rattle.vlq_write.specs.Write.{vlqValue, writeOf};
 
@@ -69,11 +70,63 @@ pub fn encode_vlq(w: &[u8; 64], out: &mut [u8], at: usize, num: u64) -> usize
     i + 1
 }
 
+// What is added to the lowest digit of `n`: 32 where others follow it.
+fn goes_on(n: u64) -> u64
+    ensures { λ r. ⌜ GoesOn n r ⌝ }
+{
+    if n < 32 { 0 } else { 32 }
+}
+
+// The character of the lowest digit of `n`.
+fn low_char(w: &[u8; 64], n: u64) -> u8
+    requires { ⌜ now w ≡ writing ⌝ }
+    ensures { λ r. ⌜ r ≡ lowChar n ⌝ }
+{
+    digits::char_in(w, n % 32 + goes_on(n))
+}
+
+// The character `c` where the value has such a digit, else the byte that stands there.
+fn kept(n: u64, c: u8, old: u8) -> u8
+    ensures { λ r. ⌜ r ≡ pick (eqb n 0) old c ⌝ }
+{
+    if n == 0 { old } else { c }
+}
+
+// Writes two, three or four digits by four stores. How many they are is as good as random, so that it is data and no
+// branch: the last two stores put back the byte that stands there where there is no such digit.
+fn put_few(w: &[u8; 64], out: &mut [u8], at: usize, num: u64) -> usize
+    requires { ⌜ now w ≡ writing ⌝ }
+    requires { ⌜ Few num ⌝ }
+    requires { ⌜ at + 4 ≤ length (now out) ⌝ }
+    ensures { λ r. ⌜ Put (now (out .entry)) at (writeOf num) r (now (out .exit)) ⌝ }
+{
+    let n1 = num / 32;
+    let n2 = n1 / 32;
+    let n3 = n2 / 32;
+    out[at] = digits::char_in(w, num % 32 + 32);
+    out[at + 1] = low_char(w, n1);
+    let c2 = low_char(w, n2);
+    out[at + 2] = kept(n2, c2, out[at + 2]);
+    let c3 = digits::char_in(w, n3 % 32);
+    out[at + 3] = kept(n3, c3, out[at + 3]);
+    at + 2 + over(n1, 32) as usize + over(n2, 32) as usize
+}
+
 // Writes the step from `b` to `a`.
 pub fn put_step(w: &[u8; 64], out: &mut [u8], at: usize, a: u32, b: u32) -> usize
     requires { ⌜ now w ≡ writing ⌝ }
     requires { ⌜ at + length (writeOf (vlqValue a b)) ≤ length (now out) ⌝ }
     ensures { λ r. ⌜ Put (now (out .entry)) at (writeOf (vlqValue a b)) r (now (out .exit)) ⌝ }
 {
-    encode_vlq(w, out, at, vlq_value(a, b))
+    let v = vlq_value(a, b);
+    if v < 32 {
+        out[at] = digits::char_in(w, v);
+        return at + 1;
+    }
+    if v < 1048576 {
+        if 4 <= out.len() - at {
+            return put_few(w, out, at, v);
+        }
+    }
+    encode_vlq(w, out, at, v)
 }

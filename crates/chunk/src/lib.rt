@@ -7,6 +7,7 @@ ghost use lib.ListN.{length, replicate};
 ghost use Rattle.list.specs.Pick.{pick};
 ghost use Rattle.token.specs.Table.{isNone};
 ghost use Rattle.digits.specs.Digits.{writing};
+ghost use Rattle.vlq_write.specs.Near.{nearWriting};
 ghost use Rattle.vlq_write.specs.Put.{Put};
 ghost use Rattle.chunk.specs.Chunk.{lead, baseOf, spelled, bytesOf, after};
 ghost use Rattle.chunk.specs.Parts.{LeadSize, NameSize, sourceOf, SourceSize};
@@ -139,23 +140,32 @@ fn put_lead(out: &mut [u8], at: usize, first: bool, from: u32, to: u32) -> usize
 }
 
 // The fields after the first, of a token with a source.
-fn put_source(w: &[u8; 64], out: &mut [u8], at: usize, p: TokenChunk, t: Token) -> usize
+fn put_source(
+    w: &[u8; 64],
+    near: &[u8; 31],
+    out: &mut [u8],
+    at: usize,
+    p: TokenChunk,
+    t: Token,
+) -> usize
     requires { ⌜ now w ≡ writing ⌝ }
+    requires { ⌜ now near ≡ nearWriting ⌝ }
     requires { ⌜ at + length (spelled (sourceOf p t)) ≤ length (now out) ⌝ }
     ensures { λ r. ⌜ Put (now (out .entry)) at (spelled (sourceOf p t)) r (now (out .exit)) ⌝ }
 {
-    let a = vlq_write::put_step(w, out, at, t.source_id, p.prev_source_id);
-    let b = vlq_write::put_step(w, out, a, t.src_line, p.prev_src_line);
-    let c = vlq_write::put_step(w, out, b, t.src_col, p.prev_src_col);
+    let a = vlq_write::put_step(w, near, out, at, t.source_id, p.prev_source_id);
+    let b = vlq_write::put_step(w, near, out, a, t.src_line, p.prev_src_line);
+    let c = vlq_write::put_step(w, near, out, b, t.src_col, p.prev_src_col);
     if t.name_id == token::NONE {
         return c;
     }
-    vlq_write::put_step(w, out, c, t.name_id, p.prev_name_id)
+    vlq_write::put_step(w, near, out, c, t.name_id, p.prev_name_id)
 }
 
 // All the bytes of a token, from `at` on; the place after them.
 pub fn put_token(
     w: &[u8; 64],
+    near: &[u8; 31],
     out: &mut [u8],
     at: usize,
     first: bool,
@@ -163,14 +173,15 @@ pub fn put_token(
     t: Token,
 ) -> usize
     requires { ⌜ now w ≡ writing ⌝ }
+    requires { ⌜ now near ≡ nearWriting ⌝ }
     requires { ⌜ p .«prev_dst_line» ≤ t .«dst_line» ⌝ }
     requires { ⌜ at + length (bytesOf first p t) ≤ length (now out) ⌝ }
     ensures { λ r. ⌜ Put (now (out .entry)) at (bytesOf first p t) r (now (out .exit)) ⌝ }
 {
     let a = put_lead(out, at, first, p.prev_dst_line, t.dst_line);
-    let b = vlq_write::put_step(w, out, a, t.dst_col, base_of(p, t));
+    let b = vlq_write::put_step(w, near, out, a, t.dst_col, base_of(p, t));
     if t.source_id == token::NONE {
         return b;
     }
-    put_source(w, out, b, p, t)
+    put_source(w, near, out, b, p, t)
 }

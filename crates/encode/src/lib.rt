@@ -3,6 +3,7 @@ use code::Code;
 use token::TokenChunk;
 ghost use mathlib.Core.Path.{_≡_};
 ghost use Rattle.digits.specs.Digits.{writing};
+ghost use Rattle.vlq_write.specs.Near.{nearWriting};
 ghost use Rattle.encode.specs.Encode.{moved, refused, Encodes};
 ghost use Rattle.encode.specs.Passes.{Inside, Lined, Measures, Suffices, Writable, Writes};
 
@@ -90,8 +91,15 @@ fn measured(table: &[u32], chunk: TokenChunk) -> Count
 }
 
 // Writes a chunk that fits and whose lines do not go back.
-fn write_all(w: &[u8; 64], table: &[u32], chunk: TokenChunk, out: &mut [u8]) -> Encoded
+fn write_all(
+    w: &[u8; 64],
+    near: &[u8; 31],
+    table: &[u32],
+    chunk: TokenChunk,
+    out: &mut [u8],
+) -> Encoded
     requires { ⌜ now w ≡ writing ⌝ }
+    requires { ⌜ now near ≡ nearWriting ⌝ }
     requires { ⌜ Writable (now table) chunk (now out) ⌝ }
     ensures { λ r. ⌜ Writes (now (table .entry)) chunk (now (out .entry)) r (now (out .exit)) ⌝ }
 {
@@ -100,7 +108,7 @@ fn write_all(w: &[u8; 64], table: &[u32], chunk: TokenChunk, out: &mut [u8]) -> 
     let mut at: usize = 0;
     while i < chunk.end as usize {
         let t = token::token_at(table, i);
-        at = chunk::put_token(w, out, at, i == 0, p, t);
+        at = chunk::put_token(w, near, out, at, i == 0, p, t);
         p = chunk::after(p, t);
         i += 1;
     }
@@ -156,7 +164,8 @@ pub fn serialize_mappings(table: &[u32], chunk: TokenChunk, out: &mut [u8]) -> E
                 return refused(chunk, Code::NoRoom(needed));
             }
             let w = digits::B64_CHARS;
-            write_all(&w, table, chunk, out)
+            let near = vlq_write::B64_NEAR;
+            write_all(&w, &near, table, chunk, out)
         }
     }
 }

@@ -4,11 +4,15 @@ ghost use Prim.Native.Nat.{_+_, _-_, _^_, _<_, _≤_};
 ghost use lib.Dec.{ltb, eqb};
 ghost use lib.ListN.{length};
 ghost use Rattle.list.specs.Pick.{pick};
-ghost use Rattle.digits.specs.Digits.{writing};
+ghost use Rattle.digits.specs.Digits.{writing, charOf};
 ghost use Rattle.vlq_write.specs.Put.{Put};
 ghost use Rattle.vlq_write.specs.Few.{Few, GoesOn, lowChar};
+ghost use Rattle.vlq_write.specs.Near.{nearWriting, Off};
 ghost use Rattle.vlq_write.specs.Size.{Reaches, StepSize};
 ghost use Rattle.vlq_write.specs.Write.{vlqValue, writeOf};
+
+// The characters of the steps from -15 to 15, which take one digit.
+pub const B64_NEAR: [u8; 31] = *b"fdbZXVTRPNLJHFDACEGIKMOQSUWYace";
 
 fn apart(a: u32, b: u32) -> u32
     ensures { λ r. ⌜ r ≡ pick (ltb a b) (b - a) (a - b) ⌝ }
@@ -112,17 +116,35 @@ fn put_few(w: &[u8; 64], out: &mut [u8], at: usize, num: u64) -> usize
     at + 2 + over(n1, 32) as usize + over(n2, 32) as usize
 }
 
-// Writes the step from `b` to `a`.
-pub fn put_step(w: &[u8; 64], out: &mut [u8], at: usize, a: u32, b: u32) -> usize
+// 15 more than the step from `b` to `a`: below 31 for the steps from -15 to 15 and for no other.
+fn off(a: u32, b: u32) -> u64
+    ensures { λ r. ⌜ Off a b r ⌝ }
+{
+    std::num::wrapping_sub_u64(a as u64 + 15, b as u64)
+}
+
+fn near_char(near: &[u8; 31], x: u64) -> u8
+    requires { ⌜ now near ≡ nearWriting ⌝ }
+    requires { ⌜ x < 31 ⌝ }
+    ensures { λ r. ⌜ r ≡ charOf (vlqValue x 15) ⌝ }
+{
+    near[x as usize]
+}
+
+// Writes the step from `b` to `a`. Most take one digit, which a table gives for the difference: neither size nor sign is
+// made for them.
+pub fn put_step(w: &[u8; 64], near: &[u8; 31], out: &mut [u8], at: usize, a: u32, b: u32) -> usize
     requires { ⌜ now w ≡ writing ⌝ }
+    requires { ⌜ now near ≡ nearWriting ⌝ }
     requires { ⌜ at + length (writeOf (vlqValue a b)) ≤ length (now out) ⌝ }
     ensures { λ r. ⌜ Put (now (out .entry)) at (writeOf (vlqValue a b)) r (now (out .exit)) ⌝ }
 {
-    let v = vlq_value(a, b);
-    if v < 32 {
-        out[at] = digits::char_in(w, v);
+    let x = off(a, b);
+    if x < 31 {
+        out[at] = near_char(near, x);
         return at + 1;
     }
+    let v = vlq_value(a, b);
     if v < 1048576 {
         if 4 <= out.len() - at {
             return put_few(w, out, at, v);

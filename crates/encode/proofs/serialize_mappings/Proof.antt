@@ -4,6 +4,7 @@ use lib.ListN.{length}
 use borrow.Author.Needs.{needs}
 use Rattle.token.specs.Table.{badTable}
 use Rattle.digits.specs.Digits.{writing}
+use Rattle.vlq_write.specs.Near.{nearWriting}
 use Rattle.encode.specs.Passes.{Inside}
 use Rattle.encode.proofs.Answer.{inside, bad-table, out-of-order, out-of-table, goes-back, no-room, writable, done}
 use Rattle.encode.proofs.serialize_mappings.Statement.{statement}
@@ -62,8 +63,8 @@ returns-4 : tie.Need-returns-4
 returns-4 c = no-room _ _ _ (good (c .before .before .before .before .before .before)) (within (c .before .before .before .before .before .before)) _ (c .before .before .before .before .before .needed .ensures) _ (c .before .before .before .c2 .given .1) (c .before .if4 .taken) _ (c .refused5 .ensures)
 
 write-all-requires : tie.Need-write-all-requires
-unfolding writing
-write-all-requires c κs = (refl, writable _ _ _ (good (c .before .before .before .before .before .before .before)) (within (c .before .before .before .before .before .before .before)) _ (c .before .before .before .before .before .before .needed .ensures) _ (c .before .before .before .before .c2 .given .1) (c .before .before .if4 .left))
+unfolding writing nearWriting
+write-all-requires c κs = (refl, (refl, writable _ _ _ (good (c .before .before .before .before .before .before .before .before)) (within (c .before .before .before .before .before .before .before .before)) _ (c .before .before .before .before .before .before .before .needed .ensures) _ (c .before .before .before .before .before .c2 .given .1) (c .before .before .before .if4 .left)))
 
 returns-5 : tie.Need-returns-5
 returns-5 c = goes-back _ _ _ (good (c .before .before .before .before .before)) (within (c .before .before .before .before .before)) _ (c .before .before .before .before .needed .ensures) _ (c .before .before .c .given .1) _ (c .refused4 .ensures)
@@ -72,7 +73,7 @@ same-length : tie.Need-same-length
 same-length c = search needs
 
 returns-6 : tie.Need-returns-6
-returns-6 c = done _ _ _ (good (c .before .before .before .before .before .before .before .before .before .before)) (within (c .before .before .before .before .before .before .before .before .before .before)) _ (c .before .before .before .before .before .before .before .before .before .needed .ensures) _ (c .before .before .before .before .before .before .before .c2 .given .1) (c .before .before .before .before .before .if4 .left) _ _ (c .before .before .write-all .ensures)
+returns-6 c = done _ _ _ (good (c .before .before .before .before .before .before .before .before .before .before .before)) (within (c .before .before .before .before .before .before .before .before .before .before .before)) _ (c .before .before .before .before .before .before .before .before .before .before .needed .ensures) _ (c .before .before .before .before .before .before .before .before .c2 .given .1) (c .before .before .before .before .before .before .if4 .left) _ _ (c .before .before .write-all .ensures)
 
 pub serialize-mappings-spec : {M : Type 1} → statement M
 serialize-mappings-spec =

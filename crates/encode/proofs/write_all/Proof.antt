@@ -6,16 +6,16 @@ use Rattle.encode.proofs.write_all.Statement.{statement}
 use Rattle.encode.proofs.write_all.Tie as tie
 
 abbrev Inv-loop : tie.InvT-loop
-Inv-loop w table chunk out₀ p₀ i₀ at₀ out p i at = Writing table chunk out₀ out p i at
+Inv-loop w near table chunk out₀ p₀ i₀ at₀ out p i at = Writing table chunk out₀ out p i at
 
 abbrev μ-loop : tie.MeasureT-loop
-μ-loop w table chunk out₀ p₀ i₀ at₀ out p i at = chunk .end - i
+μ-loop w near table chunk out₀ p₀ i₀ at₀ out p i at = chunk .end - i
 
 cast-i : tie.Need-cast-i Inv-loop μ-loop
 cast-i c = search needs
 
 loop-holds : tie.Need-loop-holds Inv-loop μ-loop
-loop-holds c = writing _ _ _ (c .before .before .before .pre .1)
+loop-holds c = writing _ _ _ (c .before .before .before .pre .1 .1)
 
 cast-if1 : tie.Need-cast-if1 Inv-loop μ-loop
 cast-if1 c = search needs
@@ -24,7 +24,7 @@ token-at-requires : tie.Need-token-at-requires Inv-loop μ-loop
 token-at-requires c κs = omega (arith, c .before .before .loop .inv .forward .inside .within)
 
 put-token-requires : tie.Need-put-token-requires Inv-loop μ-loop
-put-token-requires c κs = (c .before .before .before .before .before .before .before .before .pre .0, (write-line _ _ _ _ _ _ _ (c .before .before .before .before .loop .inv) _ (c .before .token-at .ensures) (c .before .before .if1 .taken), write-fits _ _ _ _ _ _ _ (c .before .before .before .before .loop .inv) _ (c .before .token-at .ensures) (c .before .before .if1 .taken)))
+put-token-requires c κs = (c .before .before .before .before .before .before .before .before .pre .0, (c .before .before .before .before .before .before .before .before .pre .1 .0, (write-line _ _ _ _ _ _ _ (c .before .before .before .before .loop .inv) _ (c .before .token-at .ensures) (c .before .before .if1 .taken), write-fits _ _ _ _ _ _ _ (c .before .before .before .before .loop .inv) _ (c .before .token-at .ensures) (c .before .before .if1 .taken))))
 
 after-requires : tie.Need-after-requires Inv-loop μ-loop
 after-requires c κs = search needs

@@ -10,9 +10,9 @@ use std::borrow::Cow;
 use std::hint::black_box;
 use std::path::{Path, PathBuf};
 
-use library::Chunk;
 use memory::Memory;
 use oxc_sourcemap::{SourceMap, Token, TokenChunk, reach};
+use peghayrick::TokenChunk as Chunk;
 use texts::{Kind, Names, Random, Text, made, made_tokens, real, table_of, whole};
 use timing::{Thing, Timed, after, plain, shown, timed};
 

@@ -88,7 +88,8 @@ pgk_decoded pgk_decode_checked(const uint8_t *text, size_t text_len, uint32_t so
  *   PGK_BAD_CHUNK        not start <= end <= token count
  *   PGK_LINE_GOES_BACK   a token of the chunk is on a line below the one before it (the first: below prev_dst_line)
  *   PGK_NO_ROOM          out is too short; the number says how many bytes are needed
- * Bytes of out past the count are kept. */
+ * Bytes of out past the count are kept. Lent 36 bytes for each token and one for each line that the chunk
+ * advances, the call need not count the bytes first, and is quicker by a third. */
 pgk_encoded pgk_encode(const uint32_t *table, size_t table_len, pgk_chunk chunk, uint8_t *out, size_t out_len);
 
 /* Adds line_offset to each generated line, and the other offsets to each id other than PGK_NONE. Refusals:

@@ -280,6 +280,29 @@ fn encode(file: &mut File, seed: u64) {
             }
         }
     }
+    file.group("encode: a step at each count of digits");
+    for field in 1..6 {
+        for bits in [4, 9, 14, 19, 24, 29] {
+            for size in [(1 << bits) - 1, 1 << bits] {
+                for (from, to) in [(7, 7 + size), (7 + size, 7)] {
+                    let mut numbers = [0, 7, 7, 7, 7, 7];
+                    numbers[field] = to;
+                    let before = |at: usize| if at == field { from } else { 7 };
+                    let chunk = TokenChunk {
+                        start: 0,
+                        end: 1,
+                        prev_dst_line: 0,
+                        prev_dst_col: before(1),
+                        prev_src_line: before(2),
+                        prev_src_col: before(3),
+                        prev_name_id: before(5),
+                        prev_source_id: before(4),
+                    };
+                    put_chunk(file, &Write { table: numbers.to_vec(), chunk });
+                }
+            }
+        }
+    }
     file.group("encode: pieces, each from the state before it");
     for _ in 0..60 {
         let tokens = decoding::random_tokens(&mut random, 12);

@@ -72,13 +72,7 @@ fn broken(end: Ending, at: usize) -> Segment
     }
 }
 
-pub fn parse_vlq_segment(
-    t: &[u8; 256],
-    u: &[u8; 256],
-    s: &[u8],
-    mode: Mode,
-    at: usize,
-) -> Segment
+pub fn parse_vlq_segment(t: &[u8; 256], u: &[u8; 256], s: &[u8], mode: Mode, at: usize) -> Segment
     requires { ⌜ (now t ≡ reading) × (now u ≡ shortReading) ⌝ }
     ensures { λ r. ⌜ r ≡ segmentAt mode (now (s .entry)) at ⌝ }
 {

@@ -34,7 +34,6 @@ module _ (s : List ℕ) (at cur k i d : ℕ) (r : Reading s at cur k i) (h : i <
   goes-on q next j e p =
       rw (e, p, whole) (turns s at cur k i r h (digit .delim) (omega arith) (omega (arith, same)))
 
-
   ends-here : d < 32 → (next j : ℕ) → next ≡ cur + d % 32 * 2 ^ (5 * k) → j ≡ i + 1 → 0 ≡ pick (eqb k 12) (digitOf (getD s i 0) % 32 / 16) 0 → vlqAt s at ≡ Value next 0 j
   ends-here q next j e p z =
       gives s at cur k i r h (digit .delim) (omega arith) (omega (arith, same)) next 0 (e ∙ whole) z ∙ ap (λ (m : ℕ). Value next 0 m) (sym p)

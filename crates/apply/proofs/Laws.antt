@@ -10,14 +10,15 @@ use mir.Facts.{toZ-ofZ}
 use Rattle.value.proofs.Range.{small-fits}
 use Rattle.segment.specs.declared.Segment.{Segment}
 use Rattle.code.specs.declared.Code.{Code}
-use Rattle.token.specs.Table.{none}
+use Rattle.token.specs.Table.{noId}
 use Rattle.token.specs.declared.Token.{Token}
 use Rattle.value.specs.declared.Mode.{Mode}
 use Rattle.apply.specs.declared.State.{State}
 use Rattle.apply.specs.declared.About.{About}
 use Rattle.apply.specs.declared.Moved.{Moved}
 use Rattle.apply.specs.declared.Applied.{Applied}
-use Rattle.apply.specs.Apply.{num, Small, columned, mapped, named, shown, four, five, counted, applied}
+use Rattle.apply.specs.Apply.{num, columned, mapped, named, shown, four, five, counted, applied}
+use Rattle.apply.specs.Small.{Small}
 
 module _ (g : Segment) (p : Small g) (field : ℕ) where
   held : toZ w64 (ofZ w64 (num field g)) ≡ num field g
@@ -32,7 +33,7 @@ module _ (g : Segment) (p : Small g) (field : ℕ) where
 
 -- ---- one step after the other: e is what the step's function said
 module _ (mode : Mode) (sources names : ℕ) (s : State) (g : Segment) where
-  pub four-took : (r : State) (t : Token) → Moved.To r ≡ mapped mode sources s g → t ≡ shown r (r .«source_id») none → Applied.Took t r ≡ four mode sources s g
+  pub four-took : (r : State) (t : Token) → Moved.To r ≡ mapped mode sources s g → t ≡ shown r (r .«source_id») noId → Applied.Took t r ≡ four mode sources s g
   unfolding four
   four-took r t e et = rw (et, ← e)
 
@@ -54,7 +55,7 @@ module _ (mode : Mode) (sources names : ℕ) (s : State) (g : Segment) where
   unfolding five
   five-unnamed r code about e f = rw (← e, ← f)
 
-  pub count-one : g .count ≡ 1 → (t : Token) → t ≡ shown s none none → Applied.Took t s ≡ counted mode sources names s g
+  pub count-one : g .count ≡ 1 → (t : Token) → t ≡ shown s noId noId → Applied.Took t s ≡ counted mode sources names s g
   unfolding counted
   count-one n t et = rw (eq-eqb (g .count) 1 n, et)
 

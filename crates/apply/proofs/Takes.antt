@@ -4,7 +4,7 @@ use Prim.Native.Nat.{ℕ, _<_}
 use native.Mathlib.Omega.{arith}
 use lib.IntN.{pos, _+ℤ_}
 use borrow.Author.Tests.{lt-ltb, eq-eqb, ne-eqb}
-use Rattle.token.specs.Table.{none}
+use Rattle.token.specs.Table.{noId}
 use Rattle.value.specs.declared.Mode.{Mode}
 use Rattle.segment.specs.declared.Segment.{Segment}
 use Rattle.sums.specs.Sums.{sumOf, idOf, nameSumOf}
@@ -13,12 +13,7 @@ use Rattle.sums.specs.declared.Id.{Id}
 use Rattle.apply.specs.declared.State.{State}
 use Rattle.apply.specs.declared.Moved.{Moved}
 use Rattle.apply.specs.declared.Applied.{Applied}
-use Rattle.apply.specs.Apply.{num, columned, mapped, named, shown, four, five, counted, applied}
-
--- the running numbers, at a place
-abbrev pub state : ℕ → ℕ → ℕ → ℕ → ℕ → ℕ → ℕ → State
-state line col srcLine srcCol source name at =
-    record { «dst_line» = line; «dst_col» = col; «src_line» = srcLine; «src_col» = srcCol; «source_id» = source; «name_id» = name; at = at }
+use Rattle.apply.specs.Apply.{state, num, columned, mapped, named, shown, four, five, counted, applied}
 
 module _ (mode : Mode) (sources names : ℕ) (s : State) (g : Segment) (col : ℕ) (e₀ : sumOf mode (pos (s .«dst_col») +ℤ num 0 g) ≡ Kept.At col) where
   abbrev columns : State
@@ -28,7 +23,7 @@ module _ (mode : Mode) (sources names : ℕ) (s : State) (g : Segment) (col : �
   unfolding applied columned
   past-column = rw e₀
 
-  pub takes-one : g .count ≡ 1 → applied mode sources names s g ≡ Applied.Took (shown columns none none) columns
+  pub takes-one : g .count ≡ 1 → applied mode sources names s g ≡ Applied.Took (shown columns noId noId) columns
   unfolding counted
   takes-one n = past-column ∙ rw (eq-eqb (g .count) 1 n)
 
@@ -41,7 +36,7 @@ module _ (mode : Mode) (sources names : ℕ) (s : State) (g : Segment) (col : �
     unfolding mapped
     maps = rw (e₁, e₂, e₃)
 
-    pub takes-four : g .count ≡ 4 → applied mode sources names s g ≡ Applied.Took (shown sources-to source none) sources-to
+    pub takes-four : g .count ≡ 4 → applied mode sources names s g ≡ Applied.Took (shown sources-to source noId) sources-to
     unfolding counted four
     takes-four n = past-column ∙ rw (ne-eqb (g .count) 1 (λ q. omega arith), eq-eqb (g .count) 4 n, maps)
 

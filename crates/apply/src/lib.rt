@@ -6,7 +6,8 @@ use sums::Kept;
 use token::Token;
 use value::Mode;
 ghost use mathlib.Core.Path.{_≡_};
-ghost use Rattle.apply.specs.Apply.{Small, columned, mapped, named, shown, four, five, counted, applied};
+ghost use Rattle.apply.specs.Apply.{columned, mapped, named, shown, four, five, counted, applied};
+ghost use Rattle.apply.specs.Small.{Small};
 
 // The six running numbers, and the place in the text. In this order the compiler makes no pair of them, and decode's loop has
 // fewer instructions.

@@ -7,10 +7,10 @@ use native.Mathlib.Omega.{arith}
 use lib.ListN.{length, length-append}
 use borrow.Author.Tests.{eq-eqb, ne-eqb}
 use Rattle.list.specs.Pick.{pick}
-use Rattle.token.specs.Table.{none, isNone}
+use Rattle.token.specs.Table.{noId, isNone}
 use Rattle.token.specs.declared.Token.{Token}
 use Rattle.token.specs.declared.TokenChunk.{TokenChunk}
-use Rattle.vlq_write.specs.Put.{Put}
+use Rattle.list.specs.Put.{Put}
 use Rattle.vlq_write.specs.Size.{StepSize}
 use Rattle.vlq_write.specs.Write.{vlqValue, writeOf}
 use Rattle.vlq_write.proofs.Digits.{step-most, step-none}
@@ -31,11 +31,11 @@ module _ (p : TokenChunk) (t : Token) where
   unfolding sourceOf spelled
   source-is = refl
 
-  unnamed-is : t .«name_id» ≡ none → spelled (namedOf p t) ≡ []
+  unnamed-is : t .«name_id» ≡ noId → spelled (namedOf p t) ≡ []
   unfolding spelled namedOf
   unnamed-is e = rw (eq-eqb _ _ e)
 
-  named-is : (t .«name_id» ≡ none → ⊥) → spelled (namedOf p t) ≡ step (t .«name_id») (p .«prev_name_id») ++ []
+  named-is : (t .«name_id» ≡ noId → ⊥) → spelled (namedOf p t) ≡ step (t .«name_id») (p .«prev_name_id») ++ []
   unfolding spelled namedOf
   named-is e = rw (ne-eqb _ _ e)
 
@@ -77,11 +77,11 @@ module _ (p : TokenChunk) (t : Token) where
   unfolding bytesOf fieldsOf spelled sourceOf namedOf
   bytes-are f = refl
 
-  bare-is : t .«source_id» ≡ none → spelled sourced ≡ []
+  bare-is : t .«source_id» ≡ noId → spelled sourced ≡ []
   unfolding spelled
   bare-is e = rw (eq-eqb _ _ e)
 
-  sourced-is : (t .«source_id» ≡ none → ⊥) → spelled sourced ≡ spelled (sourceOf p t)
+  sourced-is : (t .«source_id» ≡ noId → ⊥) → spelled sourced ≡ spelled (sourceOf p t)
   sourced-is e = rw (ne-eqb _ _ e)
 
   -- n is the size of the lead, base the column base, n₀ the size of the first field
@@ -92,10 +92,10 @@ module _ (p : TokenChunk) (t : Token) where
         let q : n₀ ≡ length (step (t .«dst_col») (baseOf p t)) = s₀ .is ∙ ap (λ (x : ℕ). length (step (t .«dst_col») x)) eb in
         ap length (bytes-are f) ∙ simp length-append (omega (arith, sl .is, q))
 
-    pub size-bare : t .«source_id» ≡ none → n + n₀ ≡ length (bytesOf f p t)
+    pub size-bare : t .«source_id» ≡ noId → n + n₀ ≡ length (bytesOf f p t)
     size-bare e = omega (arith, first, ap length (bare-is e))
 
-    pub size-sourced : (t .«source_id» ≡ none → ⊥) → (m : ℕ) → SourceSize p t m → n + n₀ + m ≡ length (bytesOf f p t)
+    pub size-sourced : (t .«source_id» ≡ noId → ⊥) → (m : ℕ) → SourceSize p t m → n + n₀ + m ≡ length (bytesOf f p t)
     size-sourced e m s = omega (arith, first, s .is, ap length (sourced-is e))
 
 -- at most seven digits for each of five fields, and the lead
@@ -178,10 +178,10 @@ module _ (out : List ℕ) (at : ℕ) (p : TokenChunk) (t : Token) (room : at + l
         due₄ : Due out at S N c out₃
         due₄ = due-put out at S F₃ N b out₂ due₃ c out₃ q₃
 
-        pub put-four : t .«name_id» ≡ none → Put out at S c out₃
+        pub put-four : t .«name_id» ≡ noId → Put out at S c out₃
         put-four e = due-none out at S N c out₃ due₄ (unnamed-is p t e)
 
-        module _ (e : t .«name_id» ≡ none → ⊥) where
+        module _ (e : t .«name_id» ≡ noId → ⊥) where
           due₅ : Due out at S (F₄ ++ []) c out₃
           due₅ = due-is out at S N (F₄ ++ []) c out₃ (named-is p t e) due₄
 
@@ -223,10 +223,10 @@ module _ (out : List ℕ) (at : ℕ) (f : Bool) (p : TokenChunk) (t : Token) (ro
       others : Due out at W R b out₂
       others = due-put out at W C R a out₁ column b out₂ q₁
 
-      pub put-bare : t .«source_id» ≡ none → Put out at W b out₂
+      pub put-bare : t .«source_id» ≡ noId → Put out at W b out₂
       put-bare e = due-none out at W R b out₂ others (bare-is p t e)
 
-      module _ (e : t .«source_id» ≡ none → ⊥) where
+      module _ (e : t .«source_id» ≡ noId → ⊥) where
         rest : Due out at W (spelled (sourceOf p t) ++ []) b out₂
         rest = due-is out at W R (spelled (sourceOf p t) ++ []) b out₂ (sourced-is p t e ∙ sym (append-nil (spelled (sourceOf p t)))) others
 

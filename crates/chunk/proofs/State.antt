@@ -7,7 +7,7 @@ use borrow.Author.Tests.{eq-eqb, ne-eqb}
 use mir.Syntax.{w32}
 use mir.Val.{Fits}
 use Rattle.list.proofs.Pick.{pick-ind}
-use Rattle.token.specs.Table.{none, isNone}
+use Rattle.token.specs.Table.{noId, isNone}
 use Rattle.token.specs.declared.Token.{Token}
 use Rattle.token.specs.declared.TokenChunk.{TokenChunk}
 use Rattle.chunk.specs.Chunk.{baseOf, after}
@@ -22,7 +22,7 @@ module _ (p : TokenChunk) (t : Token) where
   base-new n = rw (ne-eqb _ _ n)
 
   -- a token without a source, with one and no name, with both
-  pub after-bare : t .«source_id» ≡ none →
+  pub after-bare : t .«source_id» ≡ noId →
       record {
         start = p .start;
         end = p .end;
@@ -36,7 +36,7 @@ module _ (p : TokenChunk) (t : Token) where
   unfolding after
   after-bare s = rw (eq-eqb _ _ s)
 
-  pub after-sourced : (t .«source_id» ≡ none → ⊥) → t .«name_id» ≡ none →
+  pub after-sourced : (t .«source_id» ≡ noId → ⊥) → t .«name_id» ≡ noId →
       record {
         start = p .start;
         end = p .end;
@@ -50,7 +50,7 @@ module _ (p : TokenChunk) (t : Token) where
   unfolding after
   after-sourced s n = rw (ne-eqb _ _ s, eq-eqb _ _ n)
 
-  pub after-named : (t .«source_id» ≡ none → ⊥) → (t .«name_id» ≡ none → ⊥) →
+  pub after-named : (t .«source_id» ≡ noId → ⊥) → (t .«name_id» ≡ noId → ⊥) →
       record {
         start = p .start;
         end = p .end;

@@ -38,19 +38,33 @@ spelled (v ∷ vs) = writeOf v ++ spelled vs
 unfoldable pub bytesOf : Bool → TokenChunk → Token → List ℕ
 bytesOf first p t = lead first (p .«prev_dst_line») (t .«dst_line») ++ spelled (fieldsOf p t)
 
+-- a chunk by its numbers
+abbrev pub chunkOf : ℕ → ℕ → ℕ → ℕ → ℕ → ℕ → ℕ → ℕ → TokenChunk
+chunkOf start end line col srcLine srcCol name source =
+    record {
+      start = start;
+      end = end;
+      «prev_dst_line» = line;
+      «prev_dst_col» = col;
+      «prev_src_line» = srcLine;
+      «prev_src_col» = srcCol;
+      «prev_name_id» = name;
+      «prev_source_id» = source;
+    }
+
+-- with another start and end
+abbrev pub withEnds : ℕ → ℕ → TokenChunk → TokenChunk
+withEnds start end p =
+    chunkOf start end (p .«prev_dst_line») (p .«prev_dst_col») (p .«prev_src_line») (p .«prev_src_col») (p .«prev_name_id») (p .«prev_source_id»)
+
 -- previous source line, column and id change only at a token with a source; the name only when written
 unfoldable pub after : TokenChunk → Token → TokenChunk
 after p t =
-    record {
-      start = p .start;
-      end = p .end;
-      «prev_dst_line» = t .«dst_line»;
-      «prev_dst_col» = t .«dst_col»;
-      «prev_src_line» = pick (isNone (t .«source_id»)) (p .«prev_src_line») (t .«src_line»);
-      «prev_src_col» = pick (isNone (t .«source_id»)) (p .«prev_src_col») (t .«src_col»);
-      «prev_name_id» = pick (isNone (t .«source_id»)) (p .«prev_name_id») (pick (isNone (t .«name_id»)) (p .«prev_name_id») (t .«name_id»));
-      «prev_source_id» = pick (isNone (t .«source_id»)) (p .«prev_source_id») (t .«source_id»);
-    }
+    chunkOf (p .start) (p .end) (t .«dst_line») (t .«dst_col»)
+    (pick (isNone (t .«source_id»)) (p .«prev_src_line») (t .«src_line»))
+    (pick (isNone (t .«source_id»)) (p .«prev_src_col») (t .«src_col»))
+    (pick (isNone (t .«source_id»)) (p .«prev_name_id») (pick (isNone (t .«name_id»)) (p .«prev_name_id») (t .«name_id»)))
+    (pick (isNone (t .«source_id»)) (p .«prev_source_id») (t .«source_id»))
 
 -- the bytes of tokens, the first of which is the i-th of its table
 unfoldable pub written : ℕ → TokenChunk → List Token → List ℕ

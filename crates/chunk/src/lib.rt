@@ -6,9 +6,9 @@ ghost use Prim.Native.Nat.{_+_, _≤_};
 ghost use lib.ListN.{length, replicate};
 ghost use Rattle.list.specs.Pick.{pick};
 ghost use Rattle.token.specs.Table.{isNone};
-ghost use Rattle.digits.specs.Digits.{writing};
+ghost use Rattle.digits.specs.Tables.{writing};
 ghost use Rattle.vlq_write.specs.Near.{nearWriting};
-ghost use Rattle.vlq_write.specs.Put.{Put};
+ghost use Rattle.list.specs.Put.{Put};
 ghost use Rattle.chunk.specs.Chunk.{lead, baseOf, spelled, bytesOf, after};
 ghost use Rattle.chunk.specs.Parts.{LeadSize, NameSize, sourceOf, SourceSize};
 

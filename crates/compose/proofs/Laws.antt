@@ -18,7 +18,8 @@ use Rattle.token.specs.declared.Token.{Token}
 use Rattle.token.proofs.Laws.{length-tokens, tokens-flat}
 use Rattle.lookup.specs.Lookup.{lookupOf}
 use Rattle.names.specs.Names.{NameList, count, sound, nameAt}
-use Rattle.name_ids.specs.NameIds.{Named, firstName, firstAdded, amongInner, outerNamed, Kept}
+use Rattle.name_ids.specs.NameIds.{Named, firstName, firstAdded, amongInner, outerNamed}
+use Rattle.name_ids.specs.Answers.{Kept}
 use Rattle.name_ids.proofs.Grow.{kept-none, kept-few}
 use Rattle.name_ids.proofs.Known.{Known, named-known}
 use Rattle.compose.specs.declared.Composed.{Composed}

@@ -7,7 +7,8 @@ use Rattle.token.specs.Table.{isNone, tokenAt}
 use Rattle.token.specs.declared.Token.{Token}
 use Rattle.lookup.specs.Lookup.{lookupOf}
 use Rattle.names.specs.Names.{NameList}
-use Rattle.name_ids.specs.NameIds.{Named, Kept}
+use Rattle.name_ids.specs.NameIds.{Named}
+use Rattle.name_ids.specs.Answers.{Kept}
 use Rattle.name_ids.proofs.Grow.{kept-named}
 use Rattle.compose.specs.Compose.{Made, found, madeOf, composedFrom}
 

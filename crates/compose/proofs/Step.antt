@@ -7,13 +7,14 @@ use Prim.Native.Nat.{ℕ, _<_}
 use native.Mathlib.Omega.{arith}
 use lib.ListN.{length}
 use borrow.Author.Tests.{eq-eqb, ne-eqb}
-use Rattle.token.specs.Table.{places, tokenAt}
+use Rattle.token.specs.Table.{places, tokenAt, noId}
 use Rattle.token.specs.declared.Token.{Token}
 use Rattle.lookup.specs.Lookup.{lookupOf, foundOf}
 use Rattle.lookup.specs.declared.Found.{Found}
 use Rattle.lookup.proofs.Best.{best}
 use Rattle.names.specs.Names.{NameList}
-use Rattle.name_ids.specs.NameIds.{noId, outerNamed, namedBy}
+use Rattle.name_ids.specs.NameIds.{outerNamed}
+use Rattle.name_ids.specs.Answers.{namedBy}
 use Rattle.name_ids.specs.declared.NameId.{NameId}
 use Rattle.compose.specs.declared.Mapped.{Mapped}
 use Rattle.compose.specs.Compose.{madeOf}

@@ -14,7 +14,7 @@ use Rattle.token.specs.Table.{places, tokenAt, tokensFrom, tokensOf, putToken, 
 use Rattle.token.specs.declared.Token.{Token}
 use Rattle.token.proofs.Laws.{length-over, put-over, tokens-step, tokens-none}
 use Rattle.names.specs.Names.{NameList}
-use Rattle.name_ids.specs.NameIds.{grown, Kept, Searchable}
+use Rattle.name_ids.specs.Answers.{grown, Kept, Searchable}
 use Rattle.name_ids.proofs.Grow.{kept-none, kept-few}
 use Rattle.compose.specs.declared.Mapped.{Mapped}
 use Rattle.compose.specs.Compose.{Made, madeOf, Result, ahead, composedFrom}

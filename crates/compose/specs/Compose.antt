@@ -9,11 +9,11 @@ use Rattle.list.specs.Memory.{onto}
 use Rattle.list.specs.Pick.{pick}
 use Rattle.code.specs.Code.{codeOf}
 use Rattle.code.specs.declared.Code.{Code}
-use Rattle.token.specs.Table.{isNone, places, badTable, tokenAt, tokensOf, over}
+use Rattle.token.specs.Table.{token, isNone, places, badTable, tokenAt, tokensOf, over, noId}
 use Rattle.token.specs.declared.Token.{Token}
 use Rattle.lookup.specs.Lookup.{lookupOf}
 use Rattle.names.specs.Names.{NameList, count, sound}
-use Rattle.name_ids.specs.NameIds.{noId, Named, outerNamed}
+use Rattle.name_ids.specs.NameIds.{Named, outerNamed}
 use Rattle.compose.specs.declared.Composed.{Composed}
 
 -- a token of the result, and the added names once it is made
@@ -23,26 +23,12 @@ pub record Made : Type 0 where
 
 -- unmapped: source position 0, 0, no ids
 abbrev pub unmapped : Token → List ℕ → Made
-unmapped t added =
-    record {
-      token = record { «dst_line» = t .«dst_line»; «dst_col» = t .«dst_col»; «src_line» = 0; «src_col» = 0; «source_id» = noId; «name_id» = noId };
-      added = added;
-    }
+unmapped t added = record { token = token (t .«dst_line») (t .«dst_col») 0 0 noId noId; added = added }
 
 -- source position and id of the found token o
 abbrev pub mappedTo : Token → Token → Named → Made
 mappedTo t o n =
-    record {
-      token = record {
-        «dst_line» = t .«dst_line»;
-        «dst_col» = t .«dst_col»;
-        «src_line» = o .«src_line»;
-        «src_col» = o .«src_col»;
-        «source_id» = o .«source_id»;
-        «name_id» = n .id;
-      };
-      added = n .added;
-    }
+    record { token = token (t .«dst_line») (t .«dst_col») (o .«src_line») (o .«src_col») (o .«source_id») (n .id); added = n .added }
 
 -- its name id if it has one, within the inner list or not, else the outer name's id
 abbrev pub found : NameList → NameList → List ℕ → List ℕ → Token → Option ℕ → Made
@@ -78,6 +64,17 @@ pub record Maps : Type 0 where
   pub outerNames : NameList
   pub inner : List ℕ
   pub innerNames : NameList
+
+-- the lent slices as maps
+abbrev pub mapsOf : List ℕ → ℕ → List ℕ → List ℕ → List ℕ → List ℕ → List ℕ → Maps
+mapsOf outer sources outerText outerEnds inner innerText innerEnds =
+    record {
+      outer = outer;
+      sources = sources;
+      outerNames = record { text = outerText; ends = outerEnds };
+      inner = inner;
+      innerNames = record { text = innerText; ends = innerEnds };
+    }
 
 abbrev pub resultOf : Maps → Result
 resultOf m = composedFrom (m .innerNames) (m .outerNames) (m .inner) [] (tokensOf (m .outer))

@@ -1,3 +1,4 @@
+-- Helpers: what inner contracts and proofs need; no contract of an entry and no theorem reaches this file.
 -- What the steps of composing answer, in terms of its definitions. Assumes nothing.
 use mathlib.Core.Path.{_≡_}
 use mathlib.Core.Bool.{Bool, true, false}
@@ -9,20 +10,9 @@ use Rattle.list.specs.Pick.{pick}
 use Rattle.token.specs.Table.{places, badTable, over}
 use Rattle.token.specs.declared.Token.{Token}
 use Rattle.names.specs.Names.{NameList, count, sound}
-use Rattle.name_ids.specs.NameIds.{grown}
+use Rattle.name_ids.specs.Answers.{grown}
 use Rattle.compose.specs.Compose.{Made, unmapped, mappedTo, Maps, Result}
 use Rattle.compose.specs.declared.Mapped.{Mapped}
-
--- the lent slices as maps
-abbrev pub mapsOf : List ℕ → ℕ → List ℕ → List ℕ → List ℕ → List ℕ → List ℕ → Maps
-mapsOf outer sources outerText outerEnds inner innerText innerEnds =
-    record {
-      outer = outer;
-      sources = sources;
-      outerNames = record { text = outerText; ends = outerEnds };
-      inner = inner;
-      innerNames = record { text = innerText; ends = innerEnds };
-    }
 
 abbrev pub unmappedBy : Token → Mapped
 unmappedBy t = record { token = unmapped t [] .token; adds = false }

@@ -8,9 +8,9 @@ ghost use mathlib.Core.List.{[]};
 ghost use Prim.Native.Nat.{_<_};
 ghost use lib.ListN.{length};
 ghost use Rattle.token.specs.Table.{badTable, tokensOf};
-ghost use Rattle.name_ids.specs.NameIds.{Searchable};
-ghost use Rattle.compose.specs.Compose.{madeOf, composedFrom, composed, Composes};
-ghost use Rattle.compose.specs.Steps.{mapsOf, unmappedBy, mappedBy, madeBy, Keeps, Ready, Written};
+ghost use Rattle.name_ids.specs.Answers.{Searchable};
+ghost use Rattle.compose.specs.Compose.{madeOf, composedFrom, composed, Composes, mapsOf};
+ghost use Rattle.compose.specs.Steps.{unmappedBy, mappedBy, madeBy, Keeps, Ready, Written};
 
 // The code, and how many outer names were added; 0 for a refusal.
 pub struct Composed {

@@ -14,13 +14,13 @@ use Rattle.apply.specs.declared.State.{State}
 use Rattle.step.specs.Step.{start, stepAt}
 use Rattle.step.specs.declared.Step.{Step}
 use Rattle.decode.specs.declared.Decoded.{Decoded}
-use Rattle.decode.specs.Mapping.{Out, stopped, ahead, full, placed, run, decoded, answer, Decodes}
+use Rattle.decode.specs.Mapping.{Out, stopped, tokenThen, full, placed, run, decoded, answer, Decodes}
 
 -- tokens before others
 abbrev before : List Token → Out → Out
 before ts o = record { tokens = ts ++ o .tokens; code = o .code; offset = o .offset }
 
-before-ahead : (ts : List Token) (t : Token) (o : Out) → before ts (ahead t o) ≡ before (ts ++ (t ∷ [])) o
+before-ahead : (ts : List Token) (t : Token) (o : Out) → before ts (tokenThen t o) ≡ before (ts ++ (t ∷ [])) o
 before-ahead ts t o = rw (append-assoc ts (t ∷ []) (o .tokens))
 
 module _ (mode : Mode) (sources names : ℕ) (text : List ℕ) where
@@ -44,7 +44,7 @@ module _ (mode : Mode) (sources names : ℕ) (text : List ℕ) where
   unfolding run
   run-full s t begin s′ e = rw (← e)
 
-  run-put : (left : ℕ) (s : State) (t : Token) (begin : ℕ) (s′ : State) → Step.Put t begin s′ ≡ steps s → runs (suc left) s ≡ ahead t (runs left s′)
+  run-put : (left : ℕ) (s : State) (t : Token) (begin : ℕ) (s′ : State) → Step.Put t begin s′ ≡ steps s → runs (suc left) s ≡ tokenThen t (runs left s′)
   unfolding run
   run-put left s t begin s′ e = rw (← e)
 

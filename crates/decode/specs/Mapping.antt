@@ -21,8 +21,8 @@ pub record Out : Type 0 where
 abbrev pub stopped : Code → ℕ → Out
 stopped code offset = record { tokens = []; code = code; offset = offset }
 
-abbrev pub ahead : Token → Out → Out
-ahead t o = record { tokens = t ∷ o .tokens; code = o .code; offset = o .offset }
+abbrev pub tokenThen : Token → Out → Out
+tokenThen t o = record { tokens = t ∷ o .tokens; code = o .code; offset = o .offset }
 
 -- 6. no place left
 abbrev pub full : ℕ → Step → Out
@@ -32,7 +32,7 @@ full end Step.Done = stopped Code.Done end
 
 -- a place left
 abbrev pub placed : ℕ → Step → (State → Out) → Out
-placed end (Step.Put t begin s) go = ahead t (go s)
+placed end (Step.Put t begin s) go = tokenThen t (go s)
 placed end (Step.Refuse code offset) go = stopped code offset
 placed end Step.Done go = stopped Code.Done end
 

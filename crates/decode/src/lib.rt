@@ -7,7 +7,7 @@ use code::Code;
 use step::Step;
 use value::Mode;
 ghost use mathlib.Core.Path.{_≡_};
-ghost use Rattle.digits.specs.Digits.{reading, shortReading};
+ghost use Rattle.digits.specs.Tables.{reading, shortReading};
 ghost use Rattle.step.specs.Step.{start};
 ghost use Rattle.decode.specs.Mapping.{Decodes};
 ghost use Rattle.value.specs.declared.Mode.{Mode};

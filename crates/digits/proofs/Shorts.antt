@@ -6,7 +6,8 @@ use native.Mathlib.Omega.{arith}
 use lib.Dec.{eqb, ltb}
 use borrow.Author.Tests.{ltb-true}
 use Rattle.list.specs.Pick.{pick}
-use Rattle.digits.specs.Digits.{digitOf, isDelim, shortOf}
+use Rattle.digits.specs.Digits.{digitOf, isDelim}
+use Rattle.digits.specs.Tables.{shortOf}
 
 -- the entry of the digit d of a value of one digit
 abbrev pub entry : ℕ → ℕ

@@ -11,10 +11,11 @@ use lib.ListN.{length, getD}
 use borrow.Author.Tests.{eq-eqb}
 use Rattle.list.specs.Pick.{pick}
 use Rattle.list.proofs.Table.{both, at}
-use Rattle.digits.specs.Digits.{reading, shortReading, writing, digitOf, isDelim, codeOf, shortOf, charOf}
+use Rattle.digits.specs.Digits.{digitOf, isDelim, classOf, charOf}
+use Rattle.digits.specs.Tables.{reading, shortReading, writing, shortOf}
 
 rightRead : ℕ → ℕ → Bool
-rightRead k x = eqb x (codeOf k)
+rightRead k x = eqb x (classOf k)
 
 rightShort : ℕ → ℕ → Bool
 rightShort k x = eqb x (shortOf k)
@@ -24,11 +25,11 @@ rightWrite k x = eqb x (charOf k)
 
 -- reading inverts writing
 back : ℕ → ℕ → Bool
-back k x = eqb (codeOf x) k
+back k x = eqb (classOf x) k
 
-pub reads : (b : ℕ) → b < 256 → getD reading b 0 ≡ codeOf b
-unfolding reading rightRead codeOf isDelim digitOf
-reads b h = eqb→eq (getD reading b 0) (codeOf b) (at rightRead reading tt b h)
+pub reads : (b : ℕ) → b < 256 → getD reading b 0 ≡ classOf b
+unfolding reading rightRead classOf isDelim digitOf
+reads b h = eqb→eq (getD reading b 0) (classOf b) (at rightRead reading tt b h)
 
 pub shorts : (b : ℕ) → b < 256 → getD shortReading b 0 ≡ shortOf b
 unfolding shortReading rightShort shortOf isDelim digitOf
@@ -38,19 +39,19 @@ pub writes : (d : ℕ) → d < 64 → getD writing d 0 ≡ charOf d
 unfolding writing rightWrite charOf
 writes d h = eqb→eq (getD writing d 0) (charOf d) (at rightWrite writing tt d h)
 
-pub read-back : (d : ℕ) → d < 64 → codeOf (charOf d) ≡ d
-unfolding writing back codeOf isDelim digitOf
-read-back d h = ap codeOf (sym (writes d h)) ∙ eqb→eq (codeOf (getD writing d 0)) d (at back writing tt d h)
+pub read-back : (d : ℕ) → d < 64 → classOf (charOf d) ≡ d
+unfolding writing back classOf isDelim digitOf
+read-back d h = ap classOf (sym (writes d h)) ∙ eqb→eq (classOf (getD writing d 0)) d (at back writing tt d h)
 
 -- what a caller learns of a byte's code, by its two cases
 pub record Delim (b : ℕ) : Type 0 where
-  pub is : codeOf b ≡ 64
+  pub is : classOf b ≡ 64
   pub delim : isDelim b ≡ true
 
 pub record Digit (b : ℕ) : Type 0 where
-  pub small : codeOf b < 64
+  pub small : classOf b < 64
   pub delim : isDelim b ≡ false
-  pub is : codeOf b ≡ digitOf b
+  pub is : classOf b ≡ digitOf b
 
 kind : ℕ → ℕ → Bool
 kind k x = ltb (digitOf k) 64
@@ -60,26 +61,26 @@ unfolding reading kind digitOf
 digit-small b h = leb→le _ _ (at kind reading tt b h)
 
 by-kind : (t : Bool) (b : ℕ) → isDelim b ≡ t → digitOf b < 64 → Delim b ⊎ Digit b
-unfolding codeOf
+unfolding classOf
 by-kind true b e h = inl (record { is = rw e; delim = e })
 by-kind false b e h = inr (record { small = rw e h; delim = e; is = rw e })
 
 pub code-cases : (b : ℕ) → b < 256 → Delim b ⊎ Digit b
 code-cases b h = by-kind (isDelim b) b refl (digit-small b h)
 
-delim-of : (b : ℕ) → codeOf b ≡ 64 → Delim b ⊎ Digit b → Delim b
+delim-of : (b : ℕ) → classOf b ≡ 64 → Delim b ⊎ Digit b → Delim b
 delim-of b e (inl d) = d
-delim-of b e (inr d) = let z : codeOf b < 64 = d .small in absurd (omega arith)
+delim-of b e (inr d) = let z : classOf b < 64 = d .small in absurd (omega arith)
 
-digit-of : (b : ℕ) → (codeOf b ≡ 64 → ⊥) → Delim b ⊎ Digit b → Digit b
+digit-of : (b : ℕ) → (classOf b ≡ 64 → ⊥) → Delim b ⊎ Digit b → Digit b
 digit-of b n (inl d) = absurd (n (d .is))
 digit-of b n (inr d) = d
 
 -- what `code`'s result says of the byte
-pub is-delim : (b r : ℕ) → b < 256 → r ≡ codeOf b → r ≡ 64 → isDelim b ≡ true
+pub is-delim : (b r : ℕ) → b < 256 → r ≡ classOf b → r ≡ 64 → isDelim b ≡ true
 is-delim b r h e q = delim-of b (sym e ∙ q) (code-cases b h) .delim
 
-pub is-digit : (b r : ℕ) → b < 256 → r ≡ codeOf b → (r ≡ 64 → ⊥) → Digit b
+pub is-digit : (b r : ℕ) → b < 256 → r ≡ classOf b → (r ≡ 64 → ⊥) → Digit b
 is-digit b r h e n = digit-of b (λ q. n (e ∙ q)) (code-cases b h)
 
 -- the character of a digit is a digit, and reads as it

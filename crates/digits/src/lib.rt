@@ -1,7 +1,8 @@
 // The sixty-four characters: what each byte reads as, and what each digit is written as.
 ghost use mathlib.Core.Path.{_≡_};
 ghost use Prim.Native.Nat.{_<_};
-ghost use Rattle.digits.specs.Digits.{reading, shortReading, writing, codeOf, shortOf, charOf};
+ghost use Rattle.digits.specs.Digits.{classOf, charOf};
+ghost use Rattle.digits.specs.Tables.{reading, shortReading, writing, shortOf};
 
 // What each byte reads as: its digit, 0 to 63, or 64 for a delimiter.
 pub const B64_DECODE: [u8; 256] = *b"\
@@ -48,7 +49,7 @@ pub const B64_CHARS: [u8; 64] =
 // A constant array is made anew at each use: an entry binds it once and lends it down.
 pub fn code_in(t: &[u8; 256], b: u8) -> u8
     requires { ⌜ now t ≡ reading ⌝ }
-    ensures { λ r. ⌜ r ≡ codeOf b ⌝ }
+    ensures { λ r. ⌜ r ≡ classOf b ⌝ }
 {
     t[b as usize]
 }
@@ -70,7 +71,7 @@ pub fn char_in(w: &[u8; 64], d: u64) -> u8
 
 // The rule of the reading table, by ranges: what a byte reads as with no table at hand.
 pub fn code_of(b: u8) -> u8
-    ensures { λ r. ⌜ r ≡ codeOf b ⌝ }
+    ensures { λ r. ⌜ r ≡ classOf b ⌝ }
 {
     match b {
         65..=90 => b - 65,

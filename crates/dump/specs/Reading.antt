@@ -1,3 +1,4 @@
+-- Helpers: what inner contracts and proofs need; no contract of an entry and no theorem reaches this file.
 -- The first line as a function that computes: a count is read up to the byte that must stop it. Assumes nothing.
 use mathlib.Core.Bool.{Bool}
 use mathlib.Core.List.{List, [], _∷_}

@@ -16,7 +16,7 @@ use Rattle.code.specs.declared.Code.{Code}
 use Rattle.token.specs.Table.{badTable}
 use Rattle.token.specs.declared.TokenChunk.{TokenChunk}
 use Rattle.chunk.specs.Chunk.{firstBack, endOf}
-use Rattle.encode.specs.Encode.{tokensIn, bytesIn, badChunk, moved, refused, unlessBack, encoded, Encodes}
+use Rattle.encode.specs.Encode.{tokensIn, bytesIn, badChunk, nextChunk, givenBack, unlessBack, encoded, Encodes}
 use Rattle.encode.specs.declared.Encoded.{Encoded}
 
 -- an answer and the bytes that go with it
@@ -26,9 +26,9 @@ Fits bs out x = (length (pick (eqb (codeOf (x .code)) 0) (onto bs out) out) ≡ 
 module _ (c next : TokenChunk) (bs out : List ℕ) where
   by : (b₁ b₂ : Bool) (o : Option ℕ) (b₃ : Bool) → ltb (length out) (length bs) ≡ b₃
       → Fits bs out
-      (pick b₁ (refused c Code.BadTable)
-      (pick b₂ (refused c Code.BadChunk)
-      (unlessBack c o (pick b₃ (refused c (Code.NoRoom (length bs))) (record { code = Code.Done; bytes = length bs; next = next })))))
+      (pick b₁ (givenBack c Code.BadTable)
+      (pick b₂ (givenBack c Code.BadChunk)
+      (unlessBack c o (pick b₃ (givenBack c (Code.NoRoom (length bs))) (record { code = Code.Done; bytes = length bs; next = next })))))
   by true b₂ o b₃ e = (refl, omega arith)
   by false true o b₃ e = (refl, omega arith)
   by false false (some i) b₃ e = (refl, omega arith)
@@ -39,7 +39,7 @@ module _ (table : List ℕ) (c : TokenChunk) (out : List ℕ) where
   fits : Fits (bytesIn table c) out (encoded table c (length out))
   unfolding encoded
   fits =
-      by c (moved (c .end) (endOf c (tokensIn table c))) (bytesIn table c) out (badTable (length table)) (badChunk table c)
+      by c (nextChunk (c .end) (endOf c (tokensIn table c))) (bytesIn table c) out (badTable (length table)) (badChunk table c)
       (firstBack (c .start) (c .«prev_dst_line») (tokensIn table c)) (ltb (length out) (length (bytesIn table c))) refl
 
   module _ (r : Encoded) (out′ : List ℕ) (e : Encodes table c out r out′) where

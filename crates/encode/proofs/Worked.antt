@@ -3,13 +3,13 @@ use mathlib.Core.Path.{_≡_, refl}
 use mathlib.Core.List.{List, [], _∷_}
 use Prim.Native.Nat.{ℕ}
 use Rattle.code.specs.declared.Code.{Code}
-use Rattle.token.specs.Table.{none, tokenAt, tokensFrom}
+use Rattle.token.specs.Table.{noId, tokenAt, tokensFrom}
 use Rattle.token.specs.declared.Token.{Token}
 use Rattle.token.specs.declared.TokenChunk.{TokenChunk}
 use Rattle.digits.specs.Digits.{charOf}
 use Rattle.vlq_write.specs.Write.{vlqValue, digitsOf}
 use Rattle.chunk.specs.Chunk.{lead, baseOf, fieldsOf, spelled, bytesOf, after, written, endOf, firstBack}
-use Rattle.encode.specs.Encode.{bytesIn, refused, encoded}
+use Rattle.encode.specs.Encode.{bytesIn, givenBack, encoded}
 use Rattle.encode.specs.declared.Encoded.{Encoded}
 
 abbrev token : ℕ → ℕ → ℕ → ℕ → ℕ → ℕ → Token
@@ -38,7 +38,7 @@ done bytes next = record { code = Code.Done; bytes = bytes; next = next }
 
 -- the tokens of `AAEG;C`
 abbrev pair : List ℕ
-pair = 0 ∷ 0 ∷ 2 ∷ 3 ∷ 0 ∷ none ∷ 1 ∷ 1 ∷ 2 ∷ 3 ∷ none ∷ none ∷ []
+pair = 0 ∷ 0 ∷ 2 ∷ 3 ∷ 0 ∷ noId ∷ 1 ∷ 1 ∷ 2 ∷ 3 ∷ noId ∷ noId ∷ []
 
 -- the state after the first of them
 abbrev between : TokenChunk
@@ -46,7 +46,7 @@ between = chunk 1 2 0 0 2 3 0 0
 
 -- two tokens 0 0 0 0 0 none
 abbrev twins : List ℕ
-twins = 0 ∷ 0 ∷ 0 ∷ 0 ∷ 0 ∷ none ∷ 0 ∷ 0 ∷ 0 ∷ 0 ∷ 0 ∷ none ∷ []
+twins = 0 ∷ 0 ∷ 0 ∷ 0 ∷ 0 ∷ noId ∷ 0 ∷ 0 ∷ 0 ∷ 0 ∷ 0 ∷ noId ∷ []
 
 -- `AAEG;C` whole
 pub whole : bytesIn pair (zeros 0 2) ≡ 65 ∷ 65 ∷ 69 ∷ 71 ∷ 59 ∷ 67 ∷ []
@@ -80,11 +80,11 @@ unfolding tokenAt tokensFrom charOf vlqValue digitsOf lead baseOf fieldsOf spell
 both-twins = refl
 
 -- with 5 bytes of room the pair's 6 are refused, and the chunk is given back
-pub no-room : encoded pair (zeros 0 2) 5 ≡ refused (zeros 0 2) (Code.NoRoom 6)
+pub no-room : encoded pair (zeros 0 2) 5 ≡ givenBack (zeros 0 2) (Code.NoRoom 6)
 unfolding tokenAt tokensFrom charOf vlqValue digitsOf lead baseOf fieldsOf spelled bytesOf after written endOf firstBack encoded
 no-room = refl
 
 -- a previous line of 1, and a token on line 0
-pub goes-back : encoded pair (chunk 0 2 1 0 0 0 0 0) 6 ≡ refused (chunk 0 2 1 0 0 0 0 0) (Code.LineGoesBack 0)
+pub goes-back : encoded pair (chunk 0 2 1 0 0 0 0 0) 6 ≡ givenBack (chunk 0 2 1 0 0 0 0 0) (Code.LineGoesBack 0)
 unfolding tokenAt tokensFrom charOf vlqValue digitsOf lead baseOf fieldsOf spelled bytesOf after written endOf firstBack encoded
 goes-back = refl

@@ -13,10 +13,10 @@ use Rattle.code.specs.declared.Code.{Code}
 use Rattle.token.specs.Table.{tokenAt}
 use Rattle.token.specs.declared.Token.{Token}
 use Rattle.token.specs.declared.TokenChunk.{TokenChunk}
-use Rattle.vlq_write.specs.Put.{Put}
+use Rattle.list.specs.Put.{Put}
 use Rattle.vlq_write.proofs.Put.{Due, due-all, due-is, due-same, due-none, due-fits, due-put}
 use Rattle.chunk.specs.Chunk.{bytesOf, after, endOf}
-use Rattle.encode.specs.Encode.{tokensIn, bytesIn, moved}
+use Rattle.encode.specs.Encode.{tokensIn, bytesIn, nextChunk}
 use Rattle.encode.specs.Passes.{Inside, Writable, Writes}
 use Rattle.chunk.proofs.State.{after-line}
 use Rattle.chunk.proofs.Lists.{left, back, bytes, back-here, back-next, bytes-next, bytes-none, end-next, end-none}
@@ -71,7 +71,7 @@ module _ (table : List ℕ) (c : TokenChunk) (out₀ out : List ℕ) (p : TokenC
   written-long = due-same out₀ 0 (bytesIn table c) (bytes table (c .end) i p) at out (f .due)
 
   -- next is the end state as the code has it
-  pub written-all : c .end ≤ i → (next : TokenChunk) → next ≡ moved (c .end) p
+  pub written-all : c .end ≤ i → (next : TokenChunk) → next ≡ nextChunk (c .end) p
       → Writes table c out₀ (record { code = Code.Done; bytes = at; next = next }) out
   written-all h next e =
       let q = put-onto out₀ (bytesIn table c) at out (due-none out₀ 0 (bytesIn table c) (bytes table (c .end) i p) at out (f .due) (bytes-none table (c .end) i h p)) in

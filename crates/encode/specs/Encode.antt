@@ -14,7 +14,7 @@ use Rattle.token.specs.Table.{places, badTable, tokensFrom}
 use Rattle.token.specs.declared.Token.{Token}
 use Rattle.token.specs.declared.TokenChunk.{TokenChunk}
 use Rattle.encode.specs.declared.Encoded.{Encoded}
-use Rattle.chunk.specs.Chunk.{written, endOf, firstBack}
+use Rattle.chunk.specs.Chunk.{withEnds, written, endOf, firstBack}
 
 -- the chunk's tokens
 abbrev pub tokensIn : List ℕ → TokenChunk → List Token
@@ -29,35 +29,25 @@ abbrev pub badChunk : List ℕ → TokenChunk → Bool
 badChunk table c = pick (ltb (c .end) (c .start)) true (ltb (places (length table)) (c .end))
 
 -- start and end both equal to the old end, and the previous numbers as they stand
-abbrev pub moved : ℕ → TokenChunk → TokenChunk
-moved end p =
-    record {
-      start = end;
-      end = end;
-      «prev_dst_line» = p .«prev_dst_line»;
-      «prev_dst_col» = p .«prev_dst_col»;
-      «prev_src_line» = p .«prev_src_line»;
-      «prev_src_col» = p .«prev_src_col»;
-      «prev_name_id» = p .«prev_name_id»;
-      «prev_source_id» = p .«prev_source_id»;
-    }
+abbrev pub nextChunk : ℕ → TokenChunk → TokenChunk
+nextChunk end p = withEnds end end p
 
 -- a refusal counts no bytes and gives back the chunk it was given
-abbrev pub refused : TokenChunk → Code → Encoded
-refused c code = record { code = code; bytes = 0; next = c }
+abbrev pub givenBack : TokenChunk → Code → Encoded
+givenBack c code = record { code = code; bytes = 0; next = c }
 
 abbrev pub unlessBack : TokenChunk → Option ℕ → Encoded → Encoded
-unlessBack c (some i) r = refused c (Code.LineGoesBack i)
+unlessBack c (some i) r = givenBack c (Code.LineGoesBack i)
 unlessBack c none r = r
 
 -- BadTable, BadChunk, LineGoesBack, NoRoom, in this order; else done
 unfoldable pub encoded : List ℕ → TokenChunk → ℕ → Encoded
 encoded table c room =
-    pick (badTable (length table)) (refused c Code.BadTable)
-    (pick (badChunk table c) (refused c Code.BadChunk)
+    pick (badTable (length table)) (givenBack c Code.BadTable)
+    (pick (badChunk table c) (givenBack c Code.BadChunk)
     (unlessBack c (firstBack (c .start) (c .«prev_dst_line») (tokensIn table c))
-    (pick (ltb room (length (bytesIn table c))) (refused c (Code.NoRoom (length (bytesIn table c))))
-    (record { code = Code.Done; bytes = length (bytesIn table c); next = moved (c .end) (endOf c (tokensIn table c)) }))))
+    (pick (ltb room (length (bytesIn table c))) (givenBack c (Code.NoRoom (length (bytesIn table c))))
+    (record { code = Code.Done; bytes = length (bytesIn table c); next = nextChunk (c .end) (endOf c (tokensIn table c)) }))))
 
 -- a writer's answer, and what the lent bytes hold then: what is written, if it is done, and past that what they held before
 pub record Encodes (table : List ℕ) (c : TokenChunk) (out : List ℕ) (r : Encoded) (out′ : List ℕ) : Type 0 where

@@ -1,3 +1,4 @@
+-- Helpers: what inner contracts and proofs need; no contract of an entry and no theorem reaches this file.
 -- What the passes of the writer over a chunk say. Assumes nothing.
 use mathlib.Core.Path.{_≡_}
 use mathlib.Core.List.{List}
@@ -13,7 +14,7 @@ use Rattle.encode.specs.declared.Count.{Count}
 use Rattle.encode.specs.declared.Order.{Order}
 use Rattle.encode.specs.declared.Order.the-variants.{Back, Forth}
 use Rattle.chunk.specs.Chunk.{firstBack, endOf}
-use Rattle.encode.specs.Encode.{tokensIn, bytesIn, moved}
+use Rattle.encode.specs.Encode.{tokensIn, bytesIn, nextChunk}
 
 -- the chunk lies in the table
 pub record Inside (table : List ℕ) (c : TokenChunk) : Type 0 where
@@ -64,5 +65,5 @@ pub record Writable (table : List ℕ) (c : TokenChunk) (out : List ℕ) : Type 
 
 -- the chunk is written
 pub record Writes (table : List ℕ) (c : TokenChunk) (out : List ℕ) (r : Encoded) (out′ : List ℕ) : Type 0 where
-  pub says : r ≡ record { code = Code.Done; bytes = length (bytesIn table c); next = moved (c .end) (endOf c (tokensIn table c)) }
+  pub says : r ≡ record { code = Code.Done; bytes = length (bytesIn table c); next = nextChunk (c .end) (endOf c (tokensIn table c)) }
   pub wrote : out′ ≡ onto (bytesIn table c) out

@@ -2,9 +2,9 @@
 use code::Code;
 use token::TokenChunk;
 ghost use mathlib.Core.Path.{_≡_};
-ghost use Rattle.digits.specs.Digits.{writing};
+ghost use Rattle.digits.specs.Tables.{writing};
 ghost use Rattle.vlq_write.specs.Near.{nearWriting};
-ghost use Rattle.encode.specs.Encode.{moved, refused, Encodes};
+ghost use Rattle.encode.specs.Encode.{nextChunk, givenBack, Encodes};
 ghost use Rattle.encode.specs.Passes.{Inside, Lined, Measures, Suffices, Writable, Writes};
 
 // The code; the bytes written, 0 for a refusal; and the chunk's end state, or the chunk as it was given for a refusal.
@@ -27,7 +27,7 @@ enum Count {
 }
 
 fn refused(chunk: TokenChunk, code: Code) -> Encoded
-    ensures { λ r. ⌜ r ≡ refused chunk code ⌝ }
+    ensures { λ r. ⌜ r ≡ givenBack chunk code ⌝ }
 {
     Encoded {
         code,
@@ -38,7 +38,7 @@ fn refused(chunk: TokenChunk, code: Code) -> Encoded
 
 // The state for the chunk that begins at `end`.
 fn moved(end: u32, p: TokenChunk) -> TokenChunk
-    ensures { λ r. ⌜ r ≡ moved end p ⌝ }
+    ensures { λ r. ⌜ r ≡ nextChunk end p ⌝ }
 {
     TokenChunk {
         start: end,

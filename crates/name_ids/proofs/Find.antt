@@ -13,7 +13,8 @@ use Rattle.list.specs.Pick.{pick}
 use Rattle.names.specs.Names.{NameList, count, nameAt, same}
 use Rattle.names.proofs.Bytes.{same-is, same-self}
 use Rattle.name_ids.specs.declared.Search.{Search}
-use Rattle.name_ids.specs.NameIds.{firstName, firstAdded, searchOf}
+use Rattle.name_ids.specs.NameIds.{firstName, firstAdded}
+use Rattle.name_ids.specs.Answers.{searchOf}
 
 -- the code compares a part of the text that is the name
 pub told : (r t : Bool) (part name other : List ℕ) → r ≡ same part other → part ≡ name → r ≡ t → same name other ≡ t

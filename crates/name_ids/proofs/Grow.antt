@@ -14,7 +14,9 @@ use Rattle.list.specs.Pick.{pick}
 use Rattle.names.specs.Names.{NameList, count, nameAt}
 use Rattle.names.proofs.Ends.{few}
 use Rattle.name_ids.specs.declared.Search.{Search}
-use Rattle.name_ids.specs.NameIds.{noId, firstName, firstAdded, amongInner, outerNamed, searchOf, namedBy, Kept, Searchable}
+use Rattle.name_ids.specs.NameIds.{firstName, firstAdded, amongInner, outerNamed}
+use Rattle.token.specs.Table.{noId}
+use Rattle.name_ids.specs.Answers.{searchOf, namedBy, Kept, Searchable}
 use Rattle.name_ids.proofs.Holes.{at-most}
 use Rattle.name_ids.proofs.Find.{was-at, was-nothing, name-hit, name-missed, added-hit, added-missed}
 

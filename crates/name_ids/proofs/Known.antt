@@ -11,7 +11,9 @@ use lib.Seq.{getD-append-seam}
 use borrow.Author.Tests.{lt-ltb, le-ltb}
 use Rattle.names.specs.Names.{NameList, count, sound, nameAt, exists, nameOf}
 use Rattle.names.proofs.Ids.{in-inner, in-added, inner-name, outer-name}
-use Rattle.name_ids.specs.NameIds.{noId, firstName, firstAdded, amongInner, outerNamed, Searchable}
+use Rattle.name_ids.specs.NameIds.{firstName, firstAdded, amongInner, outerNamed}
+use Rattle.token.specs.Table.{noId}
+use Rattle.name_ids.specs.Answers.{Searchable}
 use Rattle.name_ids.proofs.Find.{name-hit, added-hit}
 
 -- a result id has a name, of these bytes

@@ -1,1 +1,2 @@
 pub mod NameIds
+pub mod Answers

@@ -7,13 +7,10 @@ use Prim.Native.Nat.{ℕ, zero, suc, _+_, _<_}
 use lib.Dec.{ltb}
 use lib.ListN.{length, getD}
 use Rattle.list.specs.Pick.{pick}
+use Rattle.token.specs.Table.{noId}
 use Rattle.names.specs.Names.{NameList, count, sound, nameAt, same}
 use Rattle.name_ids.specs.declared.Search.{Search}
 use Rattle.name_ids.specs.declared.NameId.{NameId}
-
--- as an id: none
-abbrev pub noId : ℕ
-noId = 4294967295
 
 -- the first of n names, from the k-th on, with these bytes
 unfoldable pub firstName : NameList → List ℕ → ℕ → ℕ → Option ℕ
@@ -45,28 +42,3 @@ unfoldable pub outerNamed : NameList → NameList → List ℕ → ℕ → Named
 outerNamed inner outer added id =
     pick (ltb id (count outer)) (amongInner inner outer added id (firstName inner (nameAt outer id) 0 (count inner)))
     (record { id = noId; added = added })
-
--- ---- what the code answers
-
-abbrev pub searchOf : Option ℕ → Search
-searchOf none = Search.Nothing
-searchOf (some k) = Search.At k
-
--- the added names, with one more where it is new
-abbrev pub grown : Bool → List ℕ → ℕ → List ℕ
-grown adds ids id = pick adds (ids ++ (id ∷ [])) ids
-
-abbrev pub namedBy : List ℕ → ℕ → NameId → Named
-namedBy ids id n = record { id = n .id; added = grown (n .adds) ids id }
-
--- the outer ids of added names: below the outer count, no two of equal bytes, none with the bytes of an inner name
-pub record Kept (inner outer : NameList) (ids : List ℕ) : Type 0 where
-  pub below : (j : ℕ) → j < length ids → getD ids j 0 < count outer
-  pub apart : (i j : ℕ) → i < j → j < length ids → nameAt outer (getD ids i 0) ≡ nameAt outer (getD ids j 0) → ⊥
-  pub outside : (k j : ℕ) → k < count inner → j < length ids → nameAt inner k ≡ nameAt outer (getD ids j 0) → ⊥
-
--- the names can be searched
-pub record Searchable (inner outer : NameList) (ids : List ℕ) : Type 0 where
-  pub first : sound inner ≡ true
-  pub second : sound outer ≡ true
-  pub kept : Kept inner outer ids

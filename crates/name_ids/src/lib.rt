@@ -4,7 +4,8 @@ ghost use mathlib.Core.Bool.{true};
 ghost use Prim.Native.Nat.{ℕ, _<_};
 ghost use lib.ListN.{length, getD};
 ghost use Rattle.names.specs.Names.{sound};
-ghost use Rattle.name_ids.specs.NameIds.{firstName, firstAdded, outerNamed, searchOf, namedBy, Searchable};
+ghost use Rattle.name_ids.specs.NameIds.{firstName, firstAdded, outerNamed};
+ghost use Rattle.name_ids.specs.Answers.{searchOf, namedBy, Searchable};
 
 // At which place a name was found.
 pub enum Search {

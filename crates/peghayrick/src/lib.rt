@@ -10,7 +10,7 @@ use token::TokenChunk;
 ghost use mathlib.Core.Path.{_≡_};
 ghost use Rattle.value.specs.declared.Mode.{Mode};
 ghost use Rattle.names.specs.Names.{placeOf};
-ghost use Rattle.compose.specs.Steps.{mapsOf};
+ghost use Rattle.compose.specs.Compose.{mapsOf};
 ghost use Rattle.records.specs.Records.{TranslatesRecords, answerOf};
 ghost use Rattle.peghayrick.specs.Exports.{decodedOut, DecodesOut, encodedOut, EncodesOut, TranslatesOut, LooksOut, composedOut, ComposesOut, flag, nameOut};
 

@@ -8,7 +8,7 @@ use lib.Dec.{eqb}
 use lib.ListN.{length}
 use borrow.Author.Tests.{eq-eqb, ne-eqb, le-leb, lt-leb, not-true, not-false}
 use Rattle.list.specs.Pick.{pick}
-use Rattle.token.specs.Table.{none, isNone, places, badTable, tokenAt, tokensFrom}
+use Rattle.token.specs.Table.{noId, isNone, places, badTable, tokenAt, tokensFrom}
 use Rattle.token.specs.declared.Token.{Token}
 use Rattle.token.proofs.Laws.{tokens-step, tokens-none}
 use Rattle.premises.specs.Premises.{idWithin, follows, follow, decides}
@@ -40,21 +40,21 @@ module _ (sources names line srcLine srcCol : ℕ) (t : Token) where
         unfolding follows
         opened = rw (le-leb line (t .«dst_line») h, ← ea, not-false a ka, ← eb, not-false b kb)
 
-        pub has-source : (t .«source_id» ≡ none → ⊥) → Follows true
-        has-source n = sym (opened ∙ rw (ne-eqb (t .«source_id») none n))
+        pub has-source : (t .«source_id» ≡ noId → ⊥) → Follows true
+        has-source n = sym (opened ∙ rw (ne-eqb (t .«source_id») noId n))
 
-        module _ (es : t .«source_id» ≡ none) where
-          pub lone-name : (t .«name_id» ≡ none → ⊥) → Follows false
-          lone-name n = sym (opened ∙ rw (eq-eqb (t .«source_id») none es, ne-eqb (t .«name_id») none n))
+        module _ (es : t .«source_id» ≡ noId) where
+          pub lone-name : (t .«name_id» ≡ noId → ⊥) → Follows false
+          lone-name n = sym (opened ∙ rw (eq-eqb (t .«source_id») noId es, ne-eqb (t .«name_id») noId n))
 
-          module _ (en : t .«name_id» ≡ none) where
+          module _ (en : t .«name_id» ≡ noId) where
             pub other-line : (t .«src_line» ≡ srcLine → ⊥) → Follows false
             other-line n =
-                sym (opened ∙ rw (eq-eqb (t .«source_id») none es, eq-eqb (t .«name_id») none en, ne-eqb (t .«src_line») srcLine n))
+                sym (opened ∙ rw (eq-eqb (t .«source_id») noId es, eq-eqb (t .«name_id») noId en, ne-eqb (t .«src_line») srcLine n))
 
             pub column : t .«src_line» ≡ srcLine → Follows (eqb (t .«src_col») srcCol)
             column el =
-                sym (opened ∙ rw (eq-eqb (t .«source_id») none es, eq-eqb (t .«name_id») none en, eq-eqb (t .«src_line») srcLine el))
+                sym (opened ∙ rw (eq-eqb (t .«source_id») noId es, eq-eqb (t .«name_id») noId en, eq-eqb (t .«src_line») srcLine el))
 
 -- the tokens before the i-th are passed
 pub record Passing (table : List ℕ) (sources names i line srcLine srcCol : ℕ) : Type 0 where

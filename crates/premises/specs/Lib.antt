@@ -1,2 +1,1 @@
 pub mod Premises
-pub mod Unique

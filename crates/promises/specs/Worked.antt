@@ -3,7 +3,7 @@ use mathlib.Core.Path.{_≡_, refl}
 use mathlib.Core.List.{List, [], _∷_}
 use Prim.Native.Nat.{ℕ}
 use Rattle.code.specs.declared.Code.{Code}
-use Rattle.token.specs.Table.{none}
+use Rattle.token.specs.Table.{noId, token}
 use Rattle.token.specs.declared.Token.{Token}
 use Rattle.digits.specs.Digits.{digitOf, isDelim}
 use Rattle.value.specs.Value.{valueOf}
@@ -14,10 +14,6 @@ use Rattle.sums.specs.Sums.{reducedOf, sumOf, idOf, nameSumOf}
 use Rattle.apply.specs.Apply.{columned, mapped, named, four, five, counted, applied}
 use Rattle.step.specs.Step.{offsetOf, segmentStep, stepFrom}
 use Rattle.decode.specs.Mapping.{Out, run, decoded}
-
-abbrev token : ℕ → ℕ → ℕ → ℕ → ℕ → ℕ → Token
-token a b c d e f =
-    record { «dst_line» = a; «dst_col» = b; «src_line» = c; «src_col» = d; «source_id» = e; «name_id» = f }
 
 abbrev out : List Token → Code → ℕ → Out
 out tokens code offset = record { tokens = tokens; code = code; offset = offset }
@@ -41,7 +37,7 @@ worked =
     -- empty: no tokens
     both ([]) 0 0 (out [] Code.Done 0) ∷
     -- `A`: 0 0 0 0 none none
-    both (65 ∷ []) 0 0 (out (token 0 0 0 0 none none ∷ []) Code.Done 1) ∷
+    both (65 ∷ []) 0 0 (out (token 0 0 0 0 noId noId ∷ []) Code.Done 1) ∷
     -- `AAAA`: 4 with 0
     both (65 ∷ 65 ∷ 65 ∷ 65 ∷ []) 0 0 (out [] (Code.BadSourceReference 0) 0) ∷
     -- `ACAA`: 4 with 0, not 1
@@ -53,17 +49,17 @@ worked =
     -- `AAA`: 3 with 3
     both (65 ∷ 65 ∷ 65 ∷ []) 1 0 (out [] (Code.BadSegmentSize 3) 0) ∷
     -- `+/////H`: column 4294967295, both modes
-    both (43 ∷ 47 ∷ 47 ∷ 47 ∷ 47 ∷ 47 ∷ 72 ∷ []) 0 0 (out (token 0 4294967295 0 0 none none ∷ []) Code.Done 7) ∷
+    both (43 ∷ 47 ∷ 47 ∷ 47 ∷ 47 ∷ 47 ∷ 72 ∷ []) 0 0 (out (token 0 4294967295 0 0 noId noId ∷ []) Code.Done 7) ∷
     -- six `g`, `I`: column 0; checked 6 with 0
-    row (103 ∷ 103 ∷ 103 ∷ 103 ∷ 103 ∷ 103 ∷ 73 ∷ []) 0 0 (out (token 0 0 0 0 none none ∷ []) Code.Done 7) (out [] (Code.WideValue 0) 0) ∷
+    row (103 ∷ 103 ∷ 103 ∷ 103 ∷ 103 ∷ 103 ∷ 73 ∷ []) 0 0 (out (token 0 0 0 0 noId noId ∷ []) Code.Done 7) (out [] (Code.WideValue 0) 0) ∷
     -- twelve `g`, `A`: column 0
-    both (103 ∷ 103 ∷ 103 ∷ 103 ∷ 103 ∷ 103 ∷ 103 ∷ 103 ∷ 103 ∷ 103 ∷ 103 ∷ 103 ∷ 65 ∷ []) 0 0 (out (token 0 0 0 0 none none ∷ []) Code.Done 13) ∷
+    both (103 ∷ 103 ∷ 103 ∷ 103 ∷ 103 ∷ 103 ∷ 103 ∷ 103 ∷ 103 ∷ 103 ∷ 103 ∷ 103 ∷ 65 ∷ []) 0 0 (out (token 0 0 0 0 noId noId ∷ []) Code.Done 13) ∷
     -- thirteen `g`, `A`: 2
     both (103 ∷ 103 ∷ 103 ∷ 103 ∷ 103 ∷ 103 ∷ 103 ∷ 103 ∷ 103 ∷ 103 ∷ 103 ∷ 103 ∷ 103 ∷ 65 ∷ []) 0 0 (out [] Code.VlqOverflow 0) ∷
     -- `!A`: value -15, so 3 with 0
     both (33 ∷ 65 ∷ []) 0 0 (out [] (Code.BadSegmentSize 0) 0) ∷
     -- `AAEG;C`: 0 0 2 3 0 none; 1 1 2 3 none none
-    both (65 ∷ 65 ∷ 69 ∷ 71 ∷ 59 ∷ 67 ∷ []) 1 0 (out (token 0 0 2 3 0 none ∷ token 1 1 2 3 none none ∷ []) Code.Done 6) ∷
+    both (65 ∷ 65 ∷ 69 ∷ 71 ∷ 59 ∷ 67 ∷ []) 1 0 (out (token 0 0 2 3 0 noId ∷ token 1 1 2 3 noId noId ∷ []) Code.Done 6) ∷
     []
 
 -- the definitions give the row

@@ -20,7 +20,7 @@ use Rattle.token.proofs.Laws.{length-tokens, tokens-add, tokens-none}
 use Rattle.encode.specs.declared.Encoded.{Encoded}
 use Rattle.chunk.proofs.Lists.{written-append, endOf-append}
 use Rattle.chunk.specs.Chunk.{baseOf, fieldsOf, bytesOf, after, written, endOf, firstBack}
-use Rattle.encode.specs.Encode.{tokensIn, bytesIn, badChunk, moved, refused, unlessBack, encoded, Encodes}
+use Rattle.encode.specs.Encode.{tokensIn, bytesIn, badChunk, nextChunk, givenBack, unlessBack, encoded, Encodes}
 use Rattle.round.specs.Terms.{fresh, textOf}
 use Rattle.round.specs.Chunks.{Call, upTo, whole, isDone, wroteBy, Joined, calls, callsOn, rising, lastEnd, roomy, Cuts}
 use Rattle.list.proofs.Pick.{both-true}
@@ -50,7 +50,7 @@ back-append i p (t ∷ a) b e = by-line (ltb (t .«dst_line») (p .«prev_dst_li
 
 -- ---- where a chunk starts and ends plays no part in what is written
 abbrev pub spanned : ℕ → ℕ → TokenChunk → TokenChunk
-spanned start end p = upTo end (moved start p)
+spanned start end p = upTo end (nextChunk start p)
 
 after-spanned : (s e : ℕ) (p : TokenChunk) (t : Token) → after (spanned s e p) t ≡ spanned s e (after p t)
 unfolding after
@@ -75,7 +75,7 @@ end-spanned s e p (t ∷ ts) = ap (λ (q : TokenChunk). endOf q ts) (after-spann
 -- ---- a call that nothing refuses
 pub done-call : (table : List ℕ) (c : TokenChunk) (room : ℕ) → badTable (length table) ≡ false → c .start ≤ c .end → c .end ≤ places (length table)
     → firstBack (c .start) (c .«prev_dst_line») (tokensIn table c) ≡ none → length (bytesIn table c) ≤ room
-    → encoded table c room ≡ record { code = Code.Done; bytes = length (bytesIn table c); next = moved (c .end) (endOf c (tokensIn table c)) }
+    → encoded table c room ≡ record { code = Code.Done; bytes = length (bytesIn table c); next = nextChunk (c .end) (endOf c (tokensIn table c)) }
 unfolding encoded
 done-call table c room g s e f r =
     rw (g, le-ltb (c .end) (c .start) s, le-ltb (places (length table)) (c .end) e, f, le-ltb room (length (bytesIn table c)) r)
@@ -119,10 +119,10 @@ module _ (table : List ℕ) (g : badTable (length table) ≡ false) where
       let m : i + (e - i) ≡ e = omega arith in
       ap (tokensFrom table i) n ∙ tokens-add table i (e - i) (places (length table) - e) ∙ rw m
 
-  calls-from : (ks : List Call) (i : ℕ) (p : TokenChunk) → rising i ks ≡ true → lastEnd i ks ≡ places (length table) → roomy table (moved i p) ks ≡ true
+  calls-from : (ks : List Call) (i : ℕ) (p : TokenChunk) → rising i ks ≡ true → lastEnd i ks ≡ places (length table) → roomy table (nextChunk i p) ks ≡ true
       → firstBack i (p .«prev_dst_line») (rest i) ≡ none
-      → calls table (moved i p) ks
-      ≡ record { done = true; bytes = written i p (rest i); next = moved (places (length table)) (endOf p (rest i)) }
+      → calls table (nextChunk i p) ks
+      ≡ record { done = true; bytes = written i p (rest i); next = nextChunk (places (length table)) (endOf p (rest i)) }
   unfolding calls lastEnd written endOf
   calls-from [] i p r l w f =
       let z : rest i ≡ [] = tokens-none table i (places (length table)) (omega arith) in
@@ -132,21 +132,21 @@ module _ (table : List ℕ) (g : badTable (length table) ≡ false) where
       let high : k .end ≤ places (length table) = omega (arith, last-above (k .end) ks r′) in
       let a : List Token = tokensFrom table i (k .end - i) in
       let q : TokenChunk = spanned i (k .end) p in
-      let (room, w′) = roomy-done table (moved i p) k ks w in
+      let (room, w′) = roomy-done table (nextChunk i p) k ks w in
       let c : rest i ≡ a ++ rest (k .end) = rest-cut i (k .end) low high in
       let n : i + length a ≡ k .end = omega (arith, length-tokens table i (k .end - i)) in
       let (f₁, f₂) = back-append i p a (rest (k .end)) (rw c at f) in
       let e = done-call table q (k .room) g low high f₁ room in
-      let e′ : moved (k .end) (endOf q a) ≡ moved (k .end) (endOf p a) = ap (moved (k .end)) (end-spanned i (k .end) p a) in
+      let e′ : nextChunk (k .end) (endOf q a) ≡ nextChunk (k .end) (endOf p a) = ap (nextChunk (k .end)) (end-spanned i (k .end) p a) in
       let b : written i q a ≡ written i p a = written-spanned i i (k .end) p a in
-      calls-done table (moved i p) k ks (length (bytesIn table q)) (moved (k .end) (endOf q a)) e
+      calls-done table (nextChunk i p) k ks (length (bytesIn table q)) (nextChunk (k .end) (endOf q a)) e
       ∙ ap (λ (x : TokenChunk). doneWith (written i q a) (calls table x ks)) e′
       ∙ ap (doneWith (written i q a)) (calls-from ks (k .end) (endOf p a) r′ l (rw (e, e′) at w′) (rw n at f₂))
       ∙ rw (b, c, written-append i p a (rest (k .end)), n, endOf-append)
 
   pub calls-whole : (ks : List Call) → firstBack 0 0 (tokensOf table) ≡ none → Cuts table ks
       → callsOn table ks
-      ≡ record { done = true; bytes = textOf (tokensOf table); next = moved (places (length table)) (endOf (fresh 0 0) (tokensOf table)) }
+      ≡ record { done = true; bytes = textOf (tokensOf table); next = nextChunk (places (length table)) (endOf (fresh 0 0) (tokensOf table)) }
   calls-whole ks f u =
       let n : places (length table) - 0 ≡ places (length table) = omega arith in
       calls-from ks 0 (fresh 0 0) (u .rises) (u .ends) (u .room) (rw n f) ∙ rw n
@@ -159,15 +159,15 @@ module _ (table : List ℕ) where
   pub whole-bytes : bytesIn table (whole table) ≡ textOf (tokensOf table)
   whole-bytes = rw whole-tokens (written-spanned 0 0 (places (length table)) (fresh 0 0) (tokensOf table))
 
-  whole-end : moved (places (length table)) (endOf (whole table) (tokensIn table (whole table))) ≡ moved (places (length table)) (endOf (fresh 0 0) (tokensOf table))
-  whole-end = rw whole-tokens (ap (moved (places (length table))) (end-spanned 0 (places (length table)) (fresh 0 0) (tokensOf table)))
+  whole-end : nextChunk (places (length table)) (endOf (whole table) (tokensIn table (whole table))) ≡ nextChunk (places (length table)) (endOf (fresh 0 0) (tokensOf table))
+  whole-end = rw whole-tokens (ap (nextChunk (places (length table))) (end-spanned 0 (places (length table)) (fresh 0 0) (tokensOf table)))
 
   pub whole-call : (room : ℕ) → badTable (length table) ≡ false → firstBack 0 0 (tokensOf table) ≡ none → length (textOf (tokensOf table)) ≤ room
       → encoded table (whole table) room
       ≡ record {
         code = Code.Done;
         bytes = length (textOf (tokensOf table));
-        next = moved (places (length table)) (endOf (fresh 0 0) (tokensOf table));
+        next = nextChunk (places (length table)) (endOf (fresh 0 0) (tokensOf table));
       }
   whole-call room g f r =
       done-call table (whole table) room g (omega arith) (omega arith) (rw whole-tokens f) (rw whole-bytes r)
@@ -179,11 +179,11 @@ module _ (table : List ℕ) (c : TokenChunk) (out : List ℕ) where
   Hands r = take (r .bytes) (pick (isDone r) (onto (bytesIn table c) out) out) ≡ pick (isDone r) (bytesIn table c) []
 
   hands-by : (bad badC full : Bool) (o : Option ℕ)
-      → Hands (pick bad (refused c Code.BadTable)
-      (pick badC (refused c Code.BadChunk)
+      → Hands (pick bad (givenBack c Code.BadTable)
+      (pick badC (givenBack c Code.BadChunk)
       (unlessBack c o
-      (pick full (refused c (Code.NoRoom (length (bytesIn table c))))
-      (record { code = Code.Done; bytes = length (bytesIn table c); next = moved (c .end) (endOf c (tokensIn table c)) })))))
+      (pick full (givenBack c (Code.NoRoom (length (bytesIn table c))))
+      (record { code = Code.Done; bytes = length (bytesIn table c); next = nextChunk (c .end) (endOf c (tokensIn table c)) })))))
   unfolding onto
   hands-by true badC full o = refl
   hands-by false true full o = refl

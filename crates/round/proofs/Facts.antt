@@ -8,7 +8,7 @@ use lib.Dec.{ltb, eqb, leb}
 use borrow.Author.Tests.{ltb-true, leb-true, eqb-true}
 use Rattle.list.proofs.Pick.{both-true}
 use Rattle.list.specs.Pick.{pick}
-use Rattle.token.specs.Table.{none, isNone, row}
+use Rattle.token.specs.Table.{noId, isNone, row}
 use Rattle.token.specs.declared.Token.{Token}
 use Rattle.token.specs.declared.TokenChunk.{TokenChunk}
 use Rattle.chunk.specs.Chunk.{baseOf, after}
@@ -71,7 +71,7 @@ id-less : (count id : ℕ) → isNone id ≡ false → idWithin count id ≡ tru
 id-less count id e w = ltb-true id count (rw e at w)
 
 pub record Lone (srcLine srcCol : ℕ) (t : Token) : Type 0 where
-  pub nameless : t .«name_id» ≡ none
+  pub nameless : t .«name_id» ≡ noId
   pub sameLine : t .«src_line» ≡ srcLine
   pub sameCol : t .«src_col» ≡ srcCol
 
@@ -96,7 +96,7 @@ follows-all sources names line srcLine srcCol t w =
           let d = both-true (isNone (t .«name_id»)) _ (rw e at (c .1)) in
           let f = both-true (eqb (t .«src_line») srcLine) _ (d .1) in
           record {
-            nameless = eqb-true (t .«name_id») none (d .0);
+            nameless = eqb-true (t .«name_id») noId (d .0);
             sameLine = eqb-true (t .«src_line») srcLine (f .0);
             sameCol = eqb-true (t .«src_col») srcCol (f .1);
           };

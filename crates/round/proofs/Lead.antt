@@ -15,7 +15,7 @@ use Rattle.step.specs.declared.Step.{Step}
 use Rattle.step.specs.Step.{stepFrom}
 use Rattle.chunk.specs.Chunk.{lead}
 use Rattle.round.proofs.Fields.{Ends}
-use Rattle.apply.proofs.Takes.{state}
+use Rattle.apply.specs.Apply.{state}
 
 module _ (mode : Mode) (sources names srcLine srcCol source name : ℕ) where
   -- the steps from line, col and place on

@@ -21,7 +21,7 @@ use Rattle.apply.specs.declared.State.{State}
 use Rattle.step.specs.declared.Step.{Step}
 use Rattle.apply.specs.Apply.{applied}
 use Rattle.step.specs.Step.{stepped, segmentStep, stepFrom, stepAt}
-use Rattle.decode.specs.Mapping.{ahead, run}
+use Rattle.decode.specs.Mapping.{tokenThen, run}
 use Rattle.chunk.specs.Chunk.{lead, baseOf, fieldsOf, spelled, bytesOf, after, written}
 use Rattle.round.specs.Terms.{fits32, takesEach, takesFrom}
 use Rattle.round.proofs.Value.{Head, head, head-append}
@@ -102,7 +102,7 @@ module _ (mode : Mode) (sources names : ℕ) where
   fits-after t ts f = fits-token t (flat ts) f
 
   run-put : (text : List ℕ) (room : ℕ) (s s′ : State) (t : Token) (begin : ℕ) → stepAt mode sources names text s ≡ Step.Put t begin s′
-      → run mode sources names text (suc room) s ≡ ahead t (run mode sources names text room s′)
+      → run mode sources names text (suc room) s ≡ tokenThen t (run mode sources names text room s′)
   unfolding run
   run-put text room s s′ t begin e = rw e
 
@@ -128,4 +128,4 @@ module _ (mode : Mode) (sources names : ℕ) where
       let d : drop (at + length b) text ≡ r = sym (drop-drop (length b) at text) ∙ ap (drop (length b)) e ∙ drop-append-seam b r in
       run-put text room (stateOf p at) (stateOf (after p t) (at + length b)) t (at + length (lead (eqb i 0) (p .«prev_dst_line») (t .«dst_line»)))
       (ap (stepFrom mode sources names (stateOf p at)) e ∙ step-token p t h f₁ w₁ k₁ (eqb i 0) at r (ends-next i (after p t) ts w₂))
-      ∙ ap (ahead t) (run-back ts text room (i + 1) (at + length b) (after p t) (held-after p t h f₁) f₂ w₂ k₂ (omega arith) d)
+      ∙ ap (tokenThen t) (run-back ts text room (i + 1) (at + length b) (after p t) (held-after p t h f₁) f₂ w₂ k₂ (omega arith) d)

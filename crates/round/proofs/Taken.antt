@@ -5,7 +5,7 @@ use mathlib.Core.List.{List, [], _∷_}
 use Prim.Native.Nat.{ℕ, _<_, _^_}
 use lib.IntN.{pos, _+ℤ_}
 use borrow.Author.Tests.{eqb-true}
-use Rattle.token.specs.Table.{none, isNone}
+use Rattle.token.specs.Table.{noId, isNone}
 use Rattle.token.specs.declared.Token.{Token}
 use Rattle.token.specs.declared.TokenChunk.{TokenChunk}
 use Rattle.value.specs.Value.{valueOf}
@@ -14,7 +14,7 @@ use Rattle.segment.specs.Segment.{whole, segmentOf}
 use Rattle.segment.specs.declared.Segment.{Segment}
 use Rattle.apply.specs.declared.State.{State}
 use Rattle.apply.specs.declared.Applied.{Applied}
-use Rattle.apply.specs.Apply.{applied}
+use Rattle.apply.specs.Apply.{state, applied}
 use Rattle.sums.specs.Sums.{sumOf, idOf}
 use Rattle.sums.specs.declared.Kept.{Kept}
 use Rattle.sums.specs.declared.Id.{Id}
@@ -25,7 +25,7 @@ use Rattle.vlq_write.proofs.Values.{value-small}
 use Rattle.round.proofs.Fields.{Small, fieldsAt}
 use Rattle.list.proofs.Pick.{both-true}
 use Rattle.round.proofs.Facts.{Fits, Held, base-less, After}
-use Rattle.apply.proofs.Takes.{state, takes-one, takes-four, takes-five}
+use Rattle.apply.proofs.Takes.{takes-one, takes-four, takes-five}
 use Rattle.round.proofs.Sums.{sum-back, name-back, id-back}
 
 -- the decoder's state where the writer's is p
@@ -100,7 +100,7 @@ module _ (p : TokenChunk) (t : Token) where
         rw e (
           takes-one mode sources names (ledTo p t at) (seg (v₀ ∷ [])) (t .«dst_col») (col (k₀ .0)) refl
               ∙ ap (λ (x : Token). Applied.Took x (state (t .«dst_line») (t .«dst_col») (p .«prev_src_line») (p .«prev_src_col») (p .«prev_source_id») (p .«prev_name_id») next))
-              (token-is t (p .«prev_src_line») (p .«prev_src_col») none none (l .sameLine) (l .sameCol) (eqb-true (t .«source_id») none e) (l .nameless)),
+              (token-is t (p .«prev_src_line») (p .«prev_src_col») noId noId (l .sameLine) (l .sameCol) (eqb-true (t .«source_id») noId e) (l .nameless)),
           (less₀, tt),
         )
 
@@ -134,7 +134,7 @@ module _ (p : TokenChunk) (t : Token) where
             takes-four mode sources names (ledTo p t at) (seg (v₀ ∷ v₁ ∷ v₂ ∷ v₃ ∷ [])) (t .«dst_col») (col (k₀ .0))
                 (t .«source_id») (t .«src_line») (t .«src_col») (id (k₁ .0)) (line (k₂ .0)) (column (k₃ .0)) refl
                 ∙ ap (λ (x : Token). Applied.Took x (state (t .«dst_line») (t .«dst_col») (t .«src_line») (t .«src_col») (t .«source_id») (p .«prev_name_id») next))
-                (token-is t (t .«src_line») (t .«src_col») (t .«source_id») none refl refl refl (eqb-true (t .«name_id») none g)),
+                (token-is t (t .«src_line») (t .«src_col») (t .«source_id») noId refl refl refl (eqb-true (t .«name_id») noId g)),
             (less₀, (less₁, (less₂, (less₃, tt)))),
           )
 

@@ -10,6 +10,7 @@ use Rattle.code.specs.Code.{codeOf}
 use Rattle.token.specs.Table.{places}
 use Rattle.token.specs.declared.TokenChunk.{TokenChunk}
 use Rattle.encode.specs.declared.Encoded.{Encoded}
+use Rattle.chunk.specs.Chunk.{withEnds}
 use Rattle.encode.specs.Encode.{bytesIn, encoded}
 use Rattle.round.specs.Terms.{fresh}
 
@@ -20,17 +21,7 @@ pub record Call : Type 0 where
 
 -- the chunk that a call gets: the state that the call before it answered, with its own end
 abbrev pub upTo : ℕ → TokenChunk → TokenChunk
-upTo end c =
-    record {
-      start = c .start;
-      end = end;
-      «prev_dst_line» = c .«prev_dst_line»;
-      «prev_dst_col» = c .«prev_dst_col»;
-      «prev_src_line» = c .«prev_src_line»;
-      «prev_src_col» = c .«prev_src_col»;
-      «prev_name_id» = c .«prev_name_id»;
-      «prev_source_id» = c .«prev_source_id»;
-    }
+upTo end c = withEnds (c .start) end c
 
 -- the one chunk that is the whole table
 abbrev pub whole : List ℕ → TokenChunk
@@ -49,14 +40,14 @@ pub record Joined : Type 0 where
   pub bytes : List ℕ
   pub next : TokenChunk
 
-abbrev pub onward : Encoded → List ℕ → Joined → Joined
-onward r wrote j = record { done = both (isDone r) (j .done); bytes = wrote ++ j .bytes; next = j .next }
+abbrev pub joinedTo : Encoded → List ℕ → Joined → Joined
+joinedTo r wrote j = record { done = both (isDone r) (j .done); bytes = wrote ++ j .bytes; next = j .next }
 
 -- calls one after the other, the first of which gets the state c
 unfoldable pub calls : List ℕ → TokenChunk → List Call → Joined
 calls table c [] = record { done = true; bytes = []; next = c }
 calls table c (k ∷ ks) =
-    onward (encoded table (upTo (k .end) c) (k .room)) (wroteBy table (upTo (k .end) c) (k .room))
+    joinedTo (encoded table (upTo (k .end) c) (k .room)) (wroteBy table (upTo (k .end) c) (k .room))
     (calls table (encoded table (upTo (k .end) c) (k .room) .next) ks)
 
 -- the whole table from the start: the first call gets zeros

@@ -11,7 +11,7 @@ use Rattle.token.specs.declared.Token.{Token}
 use Rattle.token.specs.declared.TokenChunk.{TokenChunk}
 use Rattle.value.specs.declared.Mode.{Mode}
 use Rattle.decode.specs.Mapping.{Out}
-use Rattle.chunk.specs.Chunk.{fieldsOf, after, written}
+use Rattle.chunk.specs.Chunk.{chunkOf, fieldsOf, after, written}
 
 -- when lists of tokens count as the same
 abbrev pub SameTokens : List Token → List Token → Type 0
@@ -28,17 +28,7 @@ fits32 (x ∷ xs) = both (ltb x (2 ^ 32)) (fits32 xs)
 
 -- a chunk that nothing stands before
 abbrev pub fresh : ℕ → ℕ → TokenChunk
-fresh start end =
-    record {
-      start = start;
-      end = end;
-      «prev_dst_line» = 0;
-      «prev_dst_col» = 0;
-      «prev_src_line» = 0;
-      «prev_src_col» = 0;
-      «prev_name_id» = 0;
-      «prev_source_id» = 0;
-    }
+fresh start end = chunkOf start end 0 0 0 0 0 0
 
 -- the text of a list of tokens, from the start; where the chunk starts and ends plays no part in it
 abbrev pub textOf : List Token → List ℕ

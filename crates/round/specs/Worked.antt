@@ -3,11 +3,10 @@ use mathlib.Core.Path.{_≡_, refl}
 use mathlib.Core.Bool.{true, false}
 use mathlib.Core.List.{List, [], _∷_}
 use Prim.Native.Nat.{ℕ}
-use Rattle.token.specs.Table.{none, tokenAt, tokensFrom, tokensOf}
-use Rattle.token.specs.declared.TokenChunk.{TokenChunk}
+use Rattle.token.specs.Table.{noId, tokenAt, tokensFrom, tokensOf}
 use Rattle.digits.specs.Digits.{charOf}
 use Rattle.vlq_write.specs.Write.{vlqValue, digitsOf}
-use Rattle.chunk.specs.Chunk.{lead, baseOf, fieldsOf, spelled, bytesOf, after, written, endOf, firstBack}
+use Rattle.chunk.specs.Chunk.{chunkOf, lead, baseOf, fieldsOf, spelled, bytesOf, after, written, endOf, firstBack}
 use Rattle.encode.specs.Encode.{encoded}
 use Rattle.premises.specs.Premises.{follows, follow, decides}
 use Rattle.round.specs.Terms.{textOf}
@@ -15,23 +14,10 @@ use Rattle.round.specs.Chunks.{Call, calls, callsOn, rising, lastEnd, ro
 
 -- 0 0 2 3 0 none; 1 1 2 3 none none
 abbrev pair : List ℕ
-pair = 0 ∷ 0 ∷ 2 ∷ 3 ∷ 0 ∷ none ∷ 1 ∷ 1 ∷ 2 ∷ 3 ∷ none ∷ none ∷ []
+pair = 0 ∷ 0 ∷ 2 ∷ 3 ∷ 0 ∷ noId ∷ 1 ∷ 1 ∷ 2 ∷ 3 ∷ noId ∷ noId ∷ []
 
 abbrev call : ℕ → ℕ → Call
 call end room = record { end = end; room = room }
-
-abbrev chunk : ℕ → ℕ → ℕ → ℕ → ℕ → TokenChunk
-chunk at line col srcLine srcCol =
-    record {
-      start = at;
-      end = at;
-      «prev_dst_line» = line;
-      «prev_dst_col» = col;
-      «prev_src_line» = srcLine;
-      «prev_src_col» = srcCol;
-      «prev_name_id» = 0;
-      «prev_source_id» = 0;
-    }
 
 pub meets : decides pair 1 0 ≡ true
 unfolding decides follow follows tokensFrom tokenAt
@@ -44,7 +30,7 @@ whole-pair = refl
 
 -- `AAEG`, nothing, then `;C`, with just the room that each needs
 pub cut-pair : callsOn pair (call 1 4 ∷ call 1 0 ∷ call 2 2 ∷ [])
-    ≡ record { done = true; bytes = 65 ∷ 65 ∷ 69 ∷ 71 ∷ 59 ∷ 67 ∷ []; next = chunk 2 1 1 2 3 }
+    ≡ record { done = true; bytes = 65 ∷ 65 ∷ 69 ∷ 71 ∷ 59 ∷ 67 ∷ []; next = chunkOf 2 2 1 1 2 3 0 0 }
 unfolding calls encoded firstBack endOf tokensFrom tokenAt written bytesOf lead spelled fieldsOf baseOf after vlqValue digitsOf charOf
 cut-pair = refl
 
@@ -58,7 +44,7 @@ unfolding calls encoded firstBack endOf tokensFrom tokenAt written bytesOf lead 
 short-pair = refl
 
 -- two tokens 0 0 0 0 0 none: `AAAA,AAAA`
-pub twice : textOf (tokensOf (0 ∷ 0 ∷ 0 ∷ 0 ∷ 0 ∷ none ∷ 0 ∷ 0 ∷ 0 ∷ 0 ∷ 0 ∷ none ∷ []))
+pub twice : textOf (tokensOf (0 ∷ 0 ∷ 0 ∷ 0 ∷ 0 ∷ noId ∷ 0 ∷ 0 ∷ 0 ∷ 0 ∷ 0 ∷ noId ∷ []))
     ≡ 65 ∷ 65 ∷ 65 ∷ 65 ∷ 44 ∷ 65 ∷ 65 ∷ 65 ∷ 65 ∷ []
 unfolding tokensFrom tokenAt written bytesOf lead spelled fieldsOf baseOf after vlqValue digitsOf charOf
 twice = refl

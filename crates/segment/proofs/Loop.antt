@@ -14,7 +14,7 @@ use Rattle.vlq.specs.Vlq.{vlqAt}
 use Rattle.vlq.specs.declared.Vlq.{Vlq}
 use Rattle.vlq.specs.declared.Vlq.the-variants.{End, Value, Leftover, Overflow}
 use Rattle.vlq.proofs.Values.{Read, value}
-use Rattle.segment.specs.Segment.{Field, Fields, whole, leftover, overflow, before, after, fieldsFrom, values, starts, zeros, zerosℕ, segmentOf, segmentAt}
+use Rattle.segment.specs.Segment.{Field, Fields, whole, leftover, overflow, before, fieldThen, fieldsFrom, values, starts, zeros, zerosℕ, segmentOf, segmentAt}
 use Rattle.segment.specs.declared.Ending.{Ending}
 use Rattle.segment.specs.declared.Segment.{Segment}
 use Rattle.segment.proofs.Five.{five, keeps, passes}
@@ -76,7 +76,7 @@ start mode s at =
 
 module _ (mode : Mode) (s : List ℕ) (at : ℕ) (nums : List ℤ) (begins : List ℕ) (count i : ℕ) (p : Parsing mode s at nums begins count i) where
   step : (r : Vlq) → r ≡ vlqAt s i
-      → fieldsFrom mode 0 at (drop at s) ≡ onto (p .fs) (after mode i r (λ next. fieldsFrom mode (next - (i + 1)) (i + 1) (drop 1 (drop i s))))
+      → fieldsFrom mode 0 at (drop at s) ≡ onto (p .fs) (fieldThen mode i r (λ next. fieldsFrom mode (next - (i + 1)) (i + 1) (drop 1 (drop i s))))
   step r e = p .is ∙ ap (onto (p .fs)) (answered mode s i r (sym e))
 
   pub ends : End ≡ vlqAt s i → record { end = Ending.Whole; nums = nums; starts = begins; count = count; next = i } ≡ segmentAt mode s at

@@ -12,7 +12,8 @@ use mir.Syntax.{w64}
 use mir.Val.{SFits, toZ, ofZ}
 use mir.ValLaws.{toZ-pos, toZ-ofZ}
 use Rattle.list.specs.Pick.{pick}
-use Rattle.digits.specs.Digits.{digitOf, shortOf}
+use Rattle.digits.specs.Digits.{digitOf}
+use Rattle.digits.specs.Tables.{shortOf}
 use Rattle.digits.proofs.Shorts.{One, one, entry}
 use Rattle.value.specs.Value.{valueOf}
 use Rattle.value.specs.declared.Mode.{Mode}

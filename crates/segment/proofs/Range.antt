@@ -12,7 +12,7 @@ use Rattle.vlq.specs.Vlq.{vlqOf}
 use Rattle.vlq.specs.declared.Vlq.{Vlq}
 use Rattle.vlq.specs.declared.Vlq.the-variants.{End, Value, Leftover, Overflow}
 use Rattle.vlq.proofs.Values.{value-bits}
-use Rattle.segment.specs.Segment.{Field, Fields, whole, leftover, overflow, before, after, fieldsFrom, values, zeros, segmentOf, segmentAt}
+use Rattle.segment.specs.Segment.{Field, Fields, whole, leftover, overflow, before, fieldThen, fieldsFrom, values, zeros, segmentOf, segmentAt}
 
 abbrev All : List ℤ → Type 0
 All [] = Unit {0}
@@ -42,7 +42,7 @@ before-fine f (whole fs next) p q = (p, q)
 before-fine f (leftover at) p q = tt
 before-fine f (overflow at) p q = tt
 
-after-fine : (mode : Mode) (at : ℕ) (l : List ℕ) (r : Vlq) (go : ℕ → Fields) → vlqOf at l ≡ r → ((next : ℕ) → Fine (go next)) → Fine (after mode at r go)
+after-fine : (mode : Mode) (at : ℕ) (l : List ℕ) (r : Vlq) (go : ℕ → Fields) → vlqOf at l ≡ r → ((next : ℕ) → Fine (go next)) → Fine (fieldThen mode at r go)
 after-fine mode at l End go e h = tt
 after-fine mode at l (Value bits lost next) go e h =
     before-fine (record { value = valueOf mode bits lost; start = at }) (go next) (value-range mode bits lost (value-bits at l bits lost next e)) (h next)

@@ -13,7 +13,7 @@ use Rattle.vlq.specs.Vlq.{vlqOf, vlqAt}
 use Rattle.vlq.specs.declared.Vlq.{Vlq}
 use Rattle.vlq.specs.declared.Vlq.the-variants.{End, Value, Leftover, Overflow}
 use Rattle.vlq.proofs.Values.{Read, value}
-use Rattle.segment.specs.Segment.{Field, Fields, before, after, fieldsFrom}
+use Rattle.segment.specs.Segment.{Field, Fields, before, fieldThen, fieldsFrom}
 
 pub fields-skip : (mode : Mode) (k at : ℕ) (bs : List ℕ) → k ≤ length bs → fieldsFrom mode k at bs ≡ fieldsFrom mode 0 (at + k) (drop k bs)
 unfolding fieldsFrom
@@ -24,14 +24,14 @@ fields-skip mode (suc k) at (b ∷ bs) h =
     ∙ ap (λ (n : ℕ). fieldsFrom mode 0 n (drop k bs)) (omega arith)
 
 opened : (mode : Mode) (at : ℕ) (l : List ℕ)
-    → fieldsFrom mode 0 at l ≡ after mode at (vlqOf at l) (λ next. fieldsFrom mode (next - (at + 1)) (at + 1) (drop 1 l))
+    → fieldsFrom mode 0 at l ≡ fieldThen mode at (vlqOf at l) (λ next. fieldsFrom mode (next - (at + 1)) (at + 1) (drop 1 l))
 unfolding fieldsFrom vlqOf
 opened mode at [] = refl
 opened mode at (b ∷ bs) = refl
 
 -- where the reader's answer is known
 pub answered : (mode : Mode) (s : List ℕ) (at : ℕ) (r : Vlq) → vlqAt s at ≡ r
-    → fieldsFrom mode 0 at (drop at s) ≡ after mode at r (λ next. fieldsFrom mode (next - (at + 1)) (at + 1) (drop 1 (drop at s)))
+    → fieldsFrom mode 0 at (drop at s) ≡ fieldThen mode at r (λ next. fieldsFrom mode (next - (at + 1)) (at + 1) (drop 1 (drop at s)))
 answered mode s at r e = opened mode at (drop at s) ∙ rw e
 
 -- past a value

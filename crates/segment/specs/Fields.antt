@@ -1,3 +1,4 @@
+-- Helpers: what inner contracts and proofs need; no contract of an entry and no theorem reaches this file.
 -- One field as the loop over them takes it: a value in place of its bits. Assumes nothing.
 use mathlib.Core.List.{List}
 use Prim.Native.Nat.{ℕ}

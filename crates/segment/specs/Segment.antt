@@ -27,17 +27,17 @@ before f (whole fs next) = whole (f ∷ fs) next
 before f (leftover at) = leftover at
 before f (overflow at) = overflow at
 
-abbrev pub after : Mode → ℕ → Vlq → (ℕ → Fields) → Fields
-after mode at End go = whole [] at
-after mode at (Value bits lost next) go = before (record { value = valueOf mode bits lost; start = at }) (go next)
-after mode at (Leftover place) go = leftover place
-after mode at (Overflow place) go = overflow place
+abbrev pub fieldThen : Mode → ℕ → Vlq → (ℕ → Fields) → Fields
+fieldThen mode at End go = whole [] at
+fieldThen mode at (Value bits lost next) go = before (record { value = valueOf mode bits lost; start = at }) (go next)
+fieldThen mode at (Leftover place) go = leftover place
+fieldThen mode at (Overflow place) go = overflow place
 
 -- the fields of the bytes past the first `skip`, which stand at the place `at`
 unfoldable pub fieldsFrom : Mode → ℕ → ℕ → List ℕ → Fields
 fieldsFrom mode zero at [] = whole [] at
 fieldsFrom mode (suc skip) at [] = whole [] at
-fieldsFrom mode zero at (b ∷ bs) = after mode at (vlqOf at (b ∷ bs)) (λ next. fieldsFrom mode (next - (at + 1)) (at + 1) bs)
+fieldsFrom mode zero at (b ∷ bs) = fieldThen mode at (vlqOf at (b ∷ bs)) (λ next. fieldsFrom mode (next - (at + 1)) (at + 1) bs)
 fieldsFrom mode (suc skip) at (b ∷ bs) = fieldsFrom mode skip (at + 1) bs
 
 abbrev pub values : List Field → List ℤ

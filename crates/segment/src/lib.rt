@@ -2,7 +2,7 @@
 use value::Mode;
 use vlq::Vlq;
 ghost use mathlib.Core.Path.{_≡_};
-ghost use Rattle.digits.specs.Digits.{reading, shortReading};
+ghost use Rattle.digits.specs.Tables.{reading, shortReading};
 ghost use Rattle.segment.specs.Segment.{brokenAt, segmentAt};
 ghost use Rattle.segment.specs.Fields.{parsedAt};
 

@@ -10,7 +10,7 @@ use lib.Dec.{eqb, ltb}
 use lib.ListN.{getD}
 use borrow.Author.Tests.{ltb-true, eqb-true, eqb-false, eq-eqb, ne-eqb}
 use Rattle.list.specs.Pick.{pick}
-use Rattle.digits.specs.Digits.{shortOf}
+use Rattle.digits.specs.Tables.{shortOf}
 use Rattle.short.specs.declared.Near.{Near}
 use Rattle.short.specs.Short.{Shaped, Stepped, Fit}
 use Rattle.digits.proofs.Shorts.{one}

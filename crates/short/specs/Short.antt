@@ -1,3 +1,4 @@
+-- Helpers: what inner contracts and proofs need; no contract of an entry and no theorem reaches this file.
 -- What the short way tests and makes: a segment of four or five values of one digit each. It decides nothing by itself: that it
 -- agrees with the general way wherever it is taken is proved. Assumes nothing.
 use mathlib.Core.Path.{_≡_}
@@ -5,7 +6,7 @@ use mathlib.Core.Logic.{_⊎_}
 use mathlib.Core.List.{List}
 use Prim.Native.Nat.{ℕ, _+_, _%_, _^_, _<_}
 use lib.ListN.{getD}
-use Rattle.digits.specs.Digits.{shortOf}
+use Rattle.digits.specs.Tables.{shortOf}
 use Rattle.apply.specs.declared.State.{State}
 use Rattle.short.specs.declared.Near.{Near}
 

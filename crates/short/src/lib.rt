@@ -7,7 +7,7 @@ ghost use Prim.Native.Nat.{_+_, _<_, _≤_};
 ghost use lib.Dec.{eqb, ltb};
 ghost use lib.ListN.{length};
 ghost use Rattle.list.specs.Pick.{pick};
-ghost use Rattle.digits.specs.Digits.{shortReading};
+ghost use Rattle.digits.specs.Tables.{shortReading};
 ghost use Rattle.short.specs.Short.{Shaped, Stepped, Nears, Fit};
 
 // The five running numbers after values of one digit; 2^32 or more where a sum leaves 0 to 4,294,967,295.

@@ -12,19 +12,21 @@ use lib.Seq.{drop-cons}
 use borrow.Author.Tests.{eq-eqb, ne-eqb, eqb-true, eqb-false}
 use Rattle.list.specs.Pick.{pick}
 use Rattle.code.specs.declared.Code.{Code}
-use Rattle.digits.specs.Digits.{codeOf, isDelim}
+use Rattle.digits.specs.Digits.{classOf, isDelim}
 use Rattle.digits.proofs.Tables.{Delim, Digit, is-digit, code-cases}
 use Rattle.value.specs.declared.Mode.{Mode}
 use Rattle.segment.specs.Segment.{segmentOf, segmentAt, fieldsFrom}
 use Rattle.segment.specs.declared.Ending.{Ending}
 use Rattle.segment.specs.declared.Segment.{Segment}
 use Rattle.segment.proofs.Range.{nums-small}
-use Rattle.apply.specs.Apply.{Small, applied}
+use Rattle.apply.specs.Apply.{applied}
+use Rattle.apply.specs.Small.{Small}
 use Rattle.apply.specs.declared.State.{State}
 use Rattle.apply.specs.declared.About.{About}
 use Rattle.apply.specs.declared.Applied.{Applied}
 use Rattle.step.specs.declared.Step.{Step}
-use Rattle.step.specs.Step.{commaed, lined, offsetOf, stepped, segmentStep, stepFrom, stepAt, segmentedAt}
+use Rattle.step.specs.Step.{commaed, lined, offsetOf, stepped, segmentStep, stepFrom, stepAt}
+use Rattle.step.specs.Ways.{segmentedAt}
 
 -- ---- a segment: g is what the segment reader gave
 module _ (mode : Mode) (sources names : ℕ) (text : List ℕ) (st : State) (g : Segment) (e : g ≡ segmentAt mode text (st .at)) where
@@ -65,7 +67,7 @@ not-both : (b : ℕ) → eqb b 44 ≡ true → eqb b 59 ≡ true → ⊥
 not-both b p q = let x = eqb-true b 44 p in let y = eqb-true b 59 q in omega arith
 
 -- the table's entry of a delimiter is 64, the largest
-delimited : (b : ℕ) → b < 256 → (d : ℕ) → d ≡ codeOf b → 64 ≤ d → pick (eqb b 44) true (eqb b 59) ≡ true
+delimited : (b : ℕ) → b < 256 → (d : ℕ) → d ≡ classOf b → 64 ≤ d → pick (eqb b 44) true (eqb b 59) ≡ true
 unfolding isDelim
 delimited b h d e l = ⊎-elim (λ k. k .delim) (λ k. absurd (omega (arith, k .small))) (code-cases b h)
 
@@ -82,7 +84,7 @@ module _ (mode : Mode) (sources names : ℕ) (text : List ℕ) (from st : State)
   ends h = sym (c .is ∙ rw (drop-of-length-le text h))
 
   -- b is the byte at the place, d what the table has for it
-  module _ (h : st .at < length text) (b : ℕ) (eb : b ≡ getD text (st .at) 0) (hb : b < 256) (d : ℕ) (ed : d ≡ codeOf b) where
+  module _ (h : st .at < length text) (b : ℕ) (eb : b ≡ getD text (st .at) 0) (hb : b < 256) (d : ℕ) (ed : d ≡ classOf b) where
     headed : drop (st .at) text ≡ b ∷ drop (st .at + 1) text
     headed = rw (eb, add-one (st .at)) (drop-cons text (st .at) 0 h)
 

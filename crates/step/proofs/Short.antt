@@ -9,7 +9,8 @@ use native.Mathlib.Omega.{arith}
 use lib.Dec.{eqb}
 use lib.ListN.{length, drop, getD}
 use borrow.Author.Tests.{lt-ltb, eq-eqb, ne-eqb}
-use Rattle.digits.specs.Digits.{digitOf, isDelim, shortOf}
+use Rattle.digits.specs.Digits.{digitOf, isDelim}
+use Rattle.digits.specs.Tables.{shortOf}
 use Rattle.value.specs.Value.{valueOf}
 use Rattle.value.specs.declared.Mode.{Mode}
 use Rattle.vlq.specs.declared.Vlq.the-variants.{End, Value}
@@ -17,16 +18,17 @@ use Rattle.vlq.proofs.Steps.{at-delim, one-digit}
 use Rattle.segment.specs.Segment.{Field, Fields, whole, before, fieldsFrom, segmentOf, segmentAt}
 use Rattle.segment.specs.declared.Segment.{Segment}
 use Rattle.segment.proofs.Reach.{answered, past}
-use Rattle.token.specs.Table.{none}
-use Rattle.apply.specs.Apply.{shown, applied}
+use Rattle.token.specs.Table.{noId}
+use Rattle.apply.specs.Apply.{state, shown, applied}
 use Rattle.apply.specs.declared.State.{State}
 use Rattle.apply.specs.declared.Applied.{Applied}
-use Rattle.apply.proofs.Takes.{state, takes-four, takes-five}
+use Rattle.apply.proofs.Takes.{takes-four, takes-five}
 use Rattle.short.specs.Short.{Shaped, Stepped, Nears, Fit}
 use Rattle.short.specs.declared.Near.{Near}
 use Rattle.digits.proofs.Shorts.{One, one, delim, entry}
 use Rattle.short.proofs.Laws.{shaped-few}
-use Rattle.step.specs.Step.{segmentStep, segmentedAt, shortStep}
+use Rattle.step.specs.Step.{segmentStep}
+use Rattle.step.specs.Ways.{segmentedAt, shortStep}
 use Rattle.step.proofs.Sums.{sum-at, name-at, id-at}
 
 module _ (mode : Mode) (text : List ℕ) where
@@ -100,7 +102,7 @@ module _ (mode : Mode) (text : List ℕ) where
 
     module _ (s : Shaped text (st .at) 4) (f : Fit n 4 sources names) (sf : sources < 2 ^ 32) where
       taken-four : applied mode sources names st (segmentOf (whole (listed (st .at) 0 4) (st .at + 4))) ≡ Applied.Took
-          (shown (state (st .«dst_line») (n .«dst_col») (n .«src_line») (n .«src_col») (n .«source_id») (st .«name_id») (st .at + 4)) (n .«source_id») none)
+          (shown (state (st .«dst_line») (n .«dst_col») (n .«src_line») (n .«src_col») (n .«source_id») (st .«name_id») (st .at + 4)) (n .«source_id») noId)
           (state (st .«dst_line») (n .«dst_col») (n .«src_line») (n .«src_col») (n .«source_id») (st .«name_id») (st .at + 4))
       unfolding field at
       taken-four =

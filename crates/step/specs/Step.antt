@@ -5,47 +5,27 @@ use lib.Dec.{eqb}
 use lib.ListN.{drop}
 use Rattle.list.specs.Pick.{pick}
 use Rattle.code.specs.declared.Code.{Code}
-use Rattle.token.specs.Table.{none}
 use Rattle.value.specs.declared.Mode.{Mode}
-use Rattle.segment.specs.Segment.{segmentOf, segmentAt, fieldsFrom}
+use Rattle.segment.specs.Segment.{segmentOf, fieldsFrom}
 use Rattle.segment.specs.declared.Ending.{Ending}
 use Rattle.segment.specs.declared.Segment.{Segment}
-use Rattle.apply.specs.Apply.{applied}
+use Rattle.apply.specs.Apply.{state, withColumn, applied}
 use Rattle.apply.specs.declared.State.{State}
 use Rattle.apply.specs.declared.About.{About}
 use Rattle.apply.specs.declared.Applied.{Applied}
-use Rattle.short.specs.declared.Near.{Near}
 use Rattle.step.specs.declared.Step.{Step}
 
 -- six running numbers start at 0, and the place too
 abbrev pub start : State
-start = record { «dst_line» = 0; «dst_col» = 0; «src_line» = 0; «src_col» = 0; «source_id» = 0; «name_id» = 0; at = 0 }
+start = state 0 0 0 0 0 0 0
 
 -- `,` does nothing
 abbrev pub commaed : State → State
-commaed s =
-    record {
-      «dst_line» = s .«dst_line»;
-      «dst_col» = s .«dst_col»;
-      «src_line» = s .«src_line»;
-      «src_col» = s .«src_col»;
-      «source_id» = s .«source_id»;
-      «name_id» = s .«name_id»;
-      at = s .at + 1;
-    }
+commaed s = withColumn s (s .«dst_col») (s .at + 1)
 
 -- `;` adds 1 to the line, modulo 2^32, and sets the generated column to 0
 abbrev pub lined : State → State
-lined s =
-    record {
-      «dst_line» = (s .«dst_line» + 1) % 2 ^ 32;
-      «dst_col» = 0;
-      «src_line» = s .«src_line»;
-      «src_col» = s .«src_col»;
-      «source_id» = s .«source_id»;
-      «name_id» = s .«name_id»;
-      at = s .at + 1;
-    }
+lined s = state ((s .«dst_line» + 1) % 2 ^ 32) 0 (s .«src_line») (s .«src_col») (s .«source_id») (s .«name_id») (s .at + 1)
 
 -- where a refused segment is said to lie, whatever part of it the refusal is about: at its start
 unfoldable pub offsetOf : ℕ → List ℕ → About → ℕ
@@ -72,30 +52,3 @@ stepFrom mode sources names s (b ∷ bs) =
 -- the same at the state's place of a whole text
 abbrev pub stepAt : Mode → ℕ → ℕ → List ℕ → State → Step
 stepAt mode sources names text s = stepFrom mode sources names s (drop (s .at) text)
-
--- the segment at the state's place of a whole text
-abbrev pub segmentedAt : Mode → ℕ → ℕ → List ℕ → State → Step
-segmentedAt mode sources names text s = segmentStep mode sources names s (segmentAt mode text (s .at)) (segmentAt mode text (s .at) .end)
-
--- the step that the short way makes; that it is the segment's own is proved
-abbrev pub shortStep : State → Near → ℕ → Step
-shortStep st n k =
-    Step.Put
-    (record {
-      «dst_line» = st .«dst_line»;
-      «dst_col» = n .«dst_col»;
-      «src_line» = n .«src_line»;
-      «src_col» = n .«src_col»;
-      «source_id» = n .«source_id»;
-      «name_id» = pick (eqb k 5) (n .«name_id») none;
-    })
-    (st .at)
-    (record {
-      «dst_line» = st .«dst_line»;
-      «dst_col» = n .«dst_col»;
-      «src_line» = n .«src_line»;
-      «src_col» = n .«src_col»;
-      «source_id» = n .«source_id»;
-      «name_id» = n .«name_id»;
-      at = st .at + k;
-    })

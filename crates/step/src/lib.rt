@@ -12,9 +12,10 @@ ghost use Prim.Native.Nat.{_+_, _<_, _≤_, _^_};
 ghost use lib.ListN.{length};
 ghost use lib.Dec.{eqb};
 ghost use Rattle.list.specs.Pick.{pick};
-ghost use Rattle.token.specs.Table.{none};
-ghost use Rattle.digits.specs.Digits.{reading, shortReading};
-ghost use Rattle.step.specs.Step.{commaed, lined, offsetOf, stepped, segmentedAt, shortStep, stepAt};
+ghost use Rattle.token.specs.Table.{noId};
+ghost use Rattle.digits.specs.Tables.{reading, shortReading};
+ghost use Rattle.step.specs.Step.{commaed, lined, offsetOf, stepped, stepAt};
+ghost use Rattle.step.specs.Ways.{segmentedAt, shortStep};
 ghost use Rattle.short.specs.Short.{Fit};
 
 // The next token with its segment's start and the state after it; a refusal with its offset; or the end.
@@ -74,7 +75,7 @@ fn general_step(
 }
 
 fn shown_name(k: usize, name_id: u32) -> u32
-    ensures { λ r. ⌜ r ≡ pick (eqb k 5) «name_id» none ⌝ }
+    ensures { λ r. ⌜ r ≡ pick (eqb k 5) «name_id» noId ⌝ }
 {
     if k == 5 {
         return name_id;

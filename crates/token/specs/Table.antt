@@ -9,11 +9,16 @@ use Rattle.list.specs.Pick.{pick}
 use Rattle.token.specs.declared.Token.{Token}
 
 -- as an id: none
-abbrev pub none : ℕ
-none = 4294967295
+abbrev pub noId : ℕ
+noId = 4294967295
+
+-- a token by its numbers
+abbrev pub token : ℕ → ℕ → ℕ → ℕ → ℕ → ℕ → Token
+token line col srcLine srcCol source name =
+    record { «dst_line» = line; «dst_col» = col; «src_line» = srcLine; «src_col» = srcCol; «source_id» = source; «name_id» = name }
 
 abbrev pub isNone : ℕ → Bool
-isNone id = eqb id none
+isNone id = eqb id noId
 
 -- the numbers of a token, in order: this list and its length alone say how many there are
 abbrev pub row : Token → List ℕ
@@ -33,14 +38,8 @@ badTable numbers = pick (eqb (numbers % width) 0) (ltb 4294967294 (places number
 -- the i-th token of a table
 unfoldable pub tokenAt : List ℕ → ℕ → Token
 tokenAt xs i =
-    record {
-      «dst_line» = getD xs (width * i) 0;
-      «dst_col» = getD xs (width * i + 1) 0;
-      «src_line» = getD xs (width * i + 2) 0;
-      «src_col» = getD xs (width * i + 3) 0;
-      «source_id» = getD xs (width * i + 4) 0;
-      «name_id» = getD xs (width * i + 5) 0;
-    }
+    token (getD xs (width * i) 0) (getD xs (width * i + 1) 0) (getD xs (width * i + 2) 0) (getD xs (width * i + 3) 0)
+    (getD xs (width * i + 4) 0) (getD xs (width * i + 5) 0)
 
 -- n tokens of a table, from the i-th on
 unfoldable pub tokensFrom : List ℕ → ℕ → ℕ → List Token

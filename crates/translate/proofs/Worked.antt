@@ -3,7 +3,7 @@ use mathlib.Core.Path.{_≡_, refl}
 use mathlib.Core.List.{[], _∷_}
 use Prim.Native.Nat.{ℕ}
 use Rattle.code.specs.declared.Code.{Code}
-use Rattle.token.specs.Table.{none, tokenAt, tokensFrom}
+use Rattle.token.specs.Table.{noId, tokenAt, tokensFrom}
 use Rattle.token.specs.declared.Token.{Token}
 use Rattle.translate.specs.declared.Translated.{Translated}
 use Rattle.translate.specs.Translate.{tooBig, moved, translatedOf, firstTooBig, translatesTo}
@@ -13,7 +13,7 @@ token line source name =
     record { «dst_line» = line; «dst_col» = 1; «src_line» = 2; «src_col» = 3; «source_id» = source; «name_id» = name }
 
 -- a source id sum of 4,294,967,295 does not become none
-source-reaches-none : translatedOf 0 1 0 (token 0 4294967294 none) ≡ Translated.TooBig
+source-reaches-none : translatedOf 0 1 0 (token 0 4294967294 noId) ≡ Translated.TooBig
 unfolding translatedOf tooBig
 source-reaches-none = refl
 
@@ -32,15 +32,15 @@ unfolding translatedOf tooBig
 past-largest-line = refl
 
 -- none stays none, whatever the offsets
-none-stays : translatedOf 5 4294967295 4294967295 (token 0 none none) ≡ Translated.To (token 5 none none)
+none-stays : translatedOf 5 4294967295 4294967295 (token 0 noId noId) ≡ Translated.To (token 5 noId noId)
 unfolding translatedOf tooBig moved
 none-stays = refl
 
 -- the index of the first token that is too big
-second-too-big : translatesTo 0 1 0 (0 ∷ 0 ∷ 0 ∷ 0 ∷ none ∷ none ∷ 0 ∷ 0 ∷ 0 ∷ 0 ∷ 4294967294 ∷ none ∷ 0 ∷ 0 ∷ 0 ∷ 0 ∷ 4294967294 ∷ none ∷ []) ≡ Code.TooBig 1
+second-too-big : translatesTo 0 1 0 (0 ∷ 0 ∷ 0 ∷ 0 ∷ noId ∷ noId ∷ 0 ∷ 0 ∷ 0 ∷ 0 ∷ 4294967294 ∷ noId ∷ 0 ∷ 0 ∷ 0 ∷ 0 ∷ 4294967294 ∷ noId ∷ []) ≡ Code.TooBig 1
 unfolding translatesTo firstTooBig tooBig tokensFrom tokenAt
 second-too-big = refl
 
-short-table : translatesTo 0 1 0 (0 ∷ 0 ∷ 0 ∷ 0 ∷ none ∷ []) ≡ Code.BadTable
+short-table : translatesTo 0 1 0 (0 ∷ 0 ∷ 0 ∷ 0 ∷ noId ∷ []) ≡ Code.BadTable
 unfolding translatesTo
 short-table = refl

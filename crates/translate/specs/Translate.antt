@@ -9,7 +9,7 @@ use lib.ListN.{length}
 use Rattle.list.specs.Pick.{pick}
 use Rattle.code.specs.Code.{codeOf}
 use Rattle.code.specs.declared.Code.{Code}
-use Rattle.token.specs.Table.{isNone, badTable, tokensOf, over}
+use Rattle.token.specs.Table.{token, isNone, badTable, tokensOf, over}
 use Rattle.token.specs.declared.Token.{Token}
 use Rattle.translate.specs.declared.Translated.{Translated}
 
@@ -28,14 +28,7 @@ tooBig line source name t =
 
 unfoldable pub moved : ℕ → ℕ → ℕ → Token → Token
 moved line source name t =
-    record {
-      «dst_line» = t .«dst_line» + line;
-      «dst_col» = t .«dst_col»;
-      «src_line» = t .«src_line»;
-      «src_col» = t .«src_col»;
-      «source_id» = idMoved (t .«source_id») source;
-      «name_id» = idMoved (t .«name_id») name;
-    }
+    token (t .«dst_line» + line) (t .«dst_col») (t .«src_line») (t .«src_col») (idMoved (t .«source_id») source) (idMoved (t .«name_id») name)
 
 -- one token's translation, or too big
 unfoldable pub translatedOf : ℕ → ℕ → ℕ → Token → Translated

@@ -9,7 +9,7 @@ use lib.Dec.{ltb, eqb}
 use lib.ListN.{length, getD}
 use borrow.Author.Tests.{ltb-true, ltb-false}
 use Rattle.list.specs.Pick.{pick}
-use Rattle.digits.specs.Digits.{codeOf, digitOf, isDelim}
+use Rattle.digits.specs.Digits.{classOf, digitOf, isDelim}
 use Rattle.digits.proofs.Tables.{Delim, Digit, code-cases, is-digit}
 use Rattle.vlq.specs.Vlq.{vlqAt}
 use Rattle.vlq.specs.declared.Vlq.{Vlq}
@@ -18,7 +18,7 @@ use Rattle.vlq.proofs.Places.{put-exact}
 use Rattle.vlq.proofs.Steps.{Reading, start, gives, turns}
 
 -- d is what the table gives for the byte at i, and no delimiter
-module _ (s : List ℕ) (at cur k i d : ℕ) (r : Reading s at cur k i) (h : i < length s) (small : getD s i 0 < 256) (ed : d ≡ codeOf (getD s i 0)) (n : d < 64) (few : k < 12) where
+module _ (s : List ℕ) (at cur k i d : ℕ) (r : Reading s at cur k i) (h : i < length s) (small : getD s i 0 < 256) (ed : d ≡ classOf (getD s i 0)) (n : d < 64) (few : k < 12) where
   digit : Digit (getD s i 0)
   digit = is-digit (getD s i 0) d small ed (λ q. omega arith)
 
@@ -40,8 +40,8 @@ module _ (s : List ℕ) (at cur k i d : ℕ) (r : Reading s at cur k i) (h : i <
 
 -- the four bytes' codes are a, b, c₁ and d₁; c and d are 0 where the digit before was the last
 module _ (s : List ℕ) (at : ℕ) (h : at + 4 ≤ length s) (small : (i : ℕ) → getD s i 0 < 256) (e : isDelim (getD s at 0) ≡ false)
-    (a b c₁ d₁ c d : ℕ) (ea : a ≡ codeOf (getD s at 0)) (eb : b ≡ codeOf (getD s (at + 1) 0))
-    (ec₁ : c₁ ≡ codeOf (getD s (at + 2) 0)) (ed₁ : d₁ ≡ codeOf (getD s (at + 3) 0))
+    (a b c₁ d₁ c d : ℕ) (ea : a ≡ classOf (getD s at 0)) (eb : b ≡ classOf (getD s (at + 1) 0))
+    (ec₁ : c₁ ≡ classOf (getD s (at + 2) 0)) (ed₁ : d₁ ≡ classOf (getD s (at + 3) 0))
     (ec : c ≡ pick (ltb b 32) 0 c₁) (ed : d ≡ pick (ltb c 32) 0 d₁)
     (ha : 32 ≤ a) (hb : b < 64) (hc : c < 64) (hd : d < 32) where
   a-small : a < 64

@@ -12,10 +12,9 @@ use lib.ListN.{length, getD, drop, drop-of-length-le}
 use lib.Seq.{drop-cons}
 use borrow.Author.Tests.{lt-ltb, le-ltb, eq-eqb, ne-eqb, ltb-true, ltb-false}
 use Rattle.list.specs.Pick.{pick}
-use Rattle.digits.specs.Digits.{digitOf, isDelim}
-use Rattle.digits.specs.Digits.{codeOf}
+use Rattle.digits.specs.Digits.{digitOf, isDelim, classOf}
 use Rattle.digits.proofs.Tables.{Digit, is-delim, is-digit}
-use Rattle.vlq.specs.Vlq.{Digits, cut, long, num, push, digitsFrom, answer, vlqOf, vlqAt}
+use Rattle.vlq.specs.Vlq.{Digits, cut, long, num, push, digitsFrom, vlqFrom, vlqOf, vlqAt}
 use Rattle.vlq.specs.declared.Vlq.{Vlq}
 use Rattle.vlq.specs.declared.Vlq.the-variants.{End, Value, Leftover, Overflow}
 use Rattle.vlq.proofs.Places.{place-next, put-exact, put-lt, lost-is}
@@ -80,7 +79,7 @@ pub record Reading (s : List ℕ) (at cur k i : ℕ) : Type 0 where
   pub place : i ≡ at + k
   pub few : k ≤ 13
   pub low : k < 13 → cur < 2 ^ (5 * k)
-  pub is : vlqAt s at ≡ answer at (under cur k (digitsFrom (13 - k) (drop i s)))
+  pub is : vlqAt s at ≡ vlqFrom at (under cur k (digitsFrom (13 - k) (drop i s)))
 
 pub past-end : (s : List ℕ) (at : ℕ) → length s ≤ at → vlqAt s at ≡ End
 unfolding vlqOf
@@ -98,7 +97,7 @@ start s at h e =
       place = omega arith;
       few = omega arith;
       low = λ _. omega arith;
-      is = rw (drop-cons s at 0 h, e) (ap (answer at) (sym (under-none (digitsFrom 13 (getD s at 0 ∷ drop (suc at) s)))));
+      is = rw (drop-cons s at 0 h, e) (ap (vlqFrom at) (sym (under-none (digitsFrom 13 (getD s at 0 ∷ drop (suc at) s)))));
     }
 
 module _ (s : List ℕ) (at cur k i : ℕ) (r : Reading s at cur k i) where
@@ -129,11 +128,11 @@ module _ (s : List ℕ) (at cur k i : ℕ) (r : Reading s at cur k i) where
         sum = rw (mod-eq-of-lt d) (mul-comm (2 ^ (5 * k)) (digitOf (getD s i 0)))
 
     next-is : isDelim (getD s i 0) ≡ false → k < 13 → 32 ≤ digitOf (getD s i 0)
-        → vlqAt s at ≡ answer at (under (cur + digitOf (getD s i 0) % 32 * 2 ^ (5 * k)) (k + 1) (digitsFrom (13 - (k + 1)) (drop (i + 1) s)))
+        → vlqAt s at ≡ vlqFrom at (under (cur + digitOf (getD s i 0) % 32 * 2 ^ (5 * k)) (k + 1) (digitsFrom (13 - (k + 1)) (drop (i + 1) s)))
     next-is e l d =
         r .is
         ∙ rw (drop-cons s i 0 h, tail-more (13 - k) (getD s i 0) (drop (suc i) s) e (omega arith) d, under-push, add-one i)
-        (ap (λ (m : ℕ). answer at (under (cur + digitOf (getD s i 0) % 32 * 2 ^ (5 * k)) (k + 1) (digitsFrom m (drop (suc i) s)))) (omega arith))
+        (ap (λ (m : ℕ). vlqFrom at (under (cur + digitOf (getD s i 0) % 32 * 2 ^ (5 * k)) (k + 1) (digitsFrom m (drop (suc i) s)))) (omega arith))
 
     module _ (e : isDelim (getD s i 0) ≡ false) (l : k < 13) (d : 32 ≤ digitOf (getD s i 0)) where
       next : ℕ
@@ -143,12 +142,12 @@ module _ (s : List ℕ) (at cur k i : ℕ) (r : Reading s at cur k i) where
       unfolding next
       exact q = put-exact cur k (digitOf (getD s i 0) % 32) q (r .low l) (omega arith)
 
-      turn-is : (t : Bool) → ltb k 12 ≡ t → vlqAt s at ≡ answer at (under (next % 2 ^ 64) (k + 1) (digitsFrom (13 - (k + 1)) (drop (i + 1) s)))
+      turn-is : (t : Bool) → ltb k 12 ≡ t → vlqAt s at ≡ vlqFrom at (under (next % 2 ^ 64) (k + 1) (digitsFrom (13 - (k + 1)) (drop (i + 1) s)))
       unfolding next
       turn-is true q = next-is e l d ∙ rw (exact (ltb-true k 12 q))
       turn-is false q =
           let z : 13 - (k + 1) ≡ 0 = omega (arith, ltb-false k 12 q) in
-          next-is e l d ∙ rw z (ap (answer at) (spent next (next % 2 ^ 64) (k + 1) (drop (i + 1) s)))
+          next-is e l d ∙ rw z (ap (vlqFrom at) (spent next (next % 2 ^ 64) (k + 1) (drop (i + 1) s)))
 
       pub turns : Reading s at ((cur + digitOf (getD s i 0) % 32 * 2 ^ (5 * k)) % 2 ^ 64) (k + 1) (i + 1)
       unfolding next
@@ -168,14 +167,14 @@ one-digit s at h e d =
     gives s at 0 0 at (start s at h e) h e (omega arith) d (digitOf (getD s at 0)) 0 (omega arith) refl
 
 -- ---- the same as the code has it: d is what the table gives for the byte, w and v are d widened
-module _ (s : List ℕ) (at : ℕ) (small : getD s at 0 < 256) (h : at < length s) (d : ℕ) (ed : d ≡ codeOf (getD s at 0)) where
+module _ (s : List ℕ) (at : ℕ) (small : getD s at 0 < 256) (h : at < length s) (d : ℕ) (ed : d ≡ classOf (getD s at 0)) where
   pub begins-not : d ≡ 64 → End ≡ vlqAt s at
   begins-not q = sym (at-delim s at h (is-delim (getD s at 0) d small ed q))
 
   pub begins : (d ≡ 64 → ⊥) → Reading s at 0 0 at
   begins n = start s at h (is-digit (getD s at 0) d small ed n .delim)
 
-module _ (s : List ℕ) (at cur k i : ℕ) (r : Reading s at cur k i) (h : i < length s) (small : getD s i 0 < 256) (d : ℕ) (ed : d ≡ codeOf (getD s i 0)) where
+module _ (s : List ℕ) (at cur k i : ℕ) (r : Reading s at cur k i) (h : i < length s) (small : getD s i 0 < 256) (d : ℕ) (ed : d ≡ classOf (getD s i 0)) where
   pub cut-at : d ≡ 64 → Leftover i ≡ vlqAt s at
   cut-at q = sym (cuts s at cur k i r h (is-delim (getD s i 0) d small ed q))
 

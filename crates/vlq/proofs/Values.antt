@@ -15,7 +15,7 @@ use Rattle.value.specs.Value.{valueOf}
 use Rattle.value.specs.declared.Mode.{Mode}
 use Rattle.value.proofs.Range.{value-range}
 use Rattle.vlq.proofs.Places.{place-next}
-use Rattle.vlq.specs.Vlq.{Digits, cut, long, num, push, digitsFrom, answer, vlqOf, vlqAt}
+use Rattle.vlq.specs.Vlq.{Digits, cut, long, num, push, digitsFrom, vlqFrom, vlqOf, vlqAt}
 use Rattle.vlq.specs.declared.Vlq.{Vlq}
 use Rattle.vlq.specs.declared.Vlq.the-variants.{End, Value, Leftover, Overflow}
 
@@ -49,7 +49,7 @@ pub record Read (s : List ℕ) (at bits lost next : ℕ) : Type 0 where
   pub within : next ≤ length s
   pub small : (mode : Mode) → natAbs (valueOf mode bits lost) ≤ 2 ^ 62
 
-answered : (s : List ℕ) (at : ℕ) (t : Digits) (bits lost next : ℕ) → digitsFrom 13 (drop at s) ≡ t → answer at t ≡ Value bits lost next → Read s at bits lost next
+answered : (s : List ℕ) (at : ℕ) (t : Digits) (bits lost next : ℕ) → digitsFrom 13 (drop at s) ≡ t → vlqFrom at t ≡ Value bits lost next → Read s at bits lost next
 answered s at (cut k) bits lost next q e = absurd (zero-one cc)
 answered s at (long k) bits lost next q e = absurd (zero-one cc)
 answered s at (num n len) bits lost next q e =
@@ -63,7 +63,7 @@ answered s at (num n len) bits lost next q e =
       small = λ mode. value-range mode bits lost (omega arith);
     }
 
-delimited : (t : Bool) (s : List ℕ) (at bits lost next : ℕ) → pick t End (answer at (digitsFrom 13 (drop at s))) ≡ Value bits lost next → Read s at bits lost next
+delimited : (t : Bool) (s : List ℕ) (at bits lost next : ℕ) → pick t End (vlqFrom at (digitsFrom 13 (drop at s))) ≡ Value bits lost next → Read s at bits lost next
 delimited true s at bits lost next e = absurd (zero-one cc)
 delimited false s at bits lost next e = answered s at (digitsFrom 13 (drop at s)) bits lost next refl e
 
@@ -76,12 +76,12 @@ pub value : (s : List ℕ) (at bits lost next : ℕ) → vlqAt s at ≡ Value bi
 value s at bits lost next e = headed (drop at s) s at bits lost next refl e
 
 -- the bits of a value are 64
-answer-bits : (at : ℕ) (t : Digits) (bits lost next : ℕ) → answer at t ≡ Value bits lost next → bits < 2 ^ 64
+answer-bits : (at : ℕ) (t : Digits) (bits lost next : ℕ) → vlqFrom at t ≡ Value bits lost next → bits < 2 ^ 64
 answer-bits at (cut k) bits lost next e = absurd (zero-one cc)
 answer-bits at (long k) bits lost next e = absurd (zero-one cc)
 answer-bits at (num n len) bits lost next e = let w : n % 2 ^ 64 ≡ bits = cc in omega arith
 
-bits-by : (t : Bool) (at : ℕ) (l : List ℕ) (bits lost next : ℕ) → pick t End (answer at (digitsFrom 13 l)) ≡ Value bits lost next → bits < 2 ^ 64
+bits-by : (t : Bool) (at : ℕ) (l : List ℕ) (bits lost next : ℕ) → pick t End (vlqFrom at (digitsFrom 13 l)) ≡ Value bits lost next → bits < 2 ^ 64
 bits-by true at l bits lost next e = absurd (zero-one cc)
 bits-by false at l bits lost next e = answer-bits at (digitsFrom 13 l) bits lost next e
 

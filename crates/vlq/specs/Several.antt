@@ -1,3 +1,4 @@
+-- Helpers: what inner contracts and proofs need; no contract of an entry and no theorem reaches this file.
 -- What the way for numbers of few digits owes the reader: where it counts any digits, the number stands there. Assumes nothing.
 use mathlib.Core.List.{List}
 use mathlib.Core.Path.{_≡_}

@@ -31,15 +31,15 @@ digitsFrom left (b ∷ bs) =
     (push (digitOf b) (digitsFrom (left - 1) bs))))
 
 -- the number's low 64 bits, what stands above them, and the place after; or where it broke
-abbrev pub answer : ℕ → Digits → Vlq
-answer at (cut k) = Leftover (at + k)
-answer at (long k) = Overflow (at + k)
-answer at (num n len) = Value (n % 2 ^ 64) (n / 2 ^ 64) (at + len)
+abbrev pub vlqFrom : ℕ → Digits → Vlq
+vlqFrom at (cut k) = Leftover (at + k)
+vlqFrom at (long k) = Overflow (at + k)
+vlqFrom at (num n len) = Value (n % 2 ^ 64) (n / 2 ^ 64) (at + len)
 
 -- what stands at the place `at`, where the bytes begin
 unfoldable pub vlqOf : ℕ → List ℕ → Vlq
 vlqOf at [] = End
-vlqOf at (b ∷ bs) = pick (isDelim b) End (answer at (digitsFrom 13 (b ∷ bs)))
+vlqOf at (b ∷ bs) = pick (isDelim b) End (vlqFrom at (digitsFrom 13 (b ∷ bs)))
 
 abbrev pub vlqAt : List ℕ → ℕ → Vlq
 vlqAt s at = vlqOf at (drop at s)

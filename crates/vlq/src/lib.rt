@@ -5,7 +5,8 @@ ghost use Prim.Native.Nat.{_+_, _*_, _/_, _%_, _^_, _<_, _≤_};
 ghost use lib.Dec.{eqb, ltb};
 ghost use lib.ListN.{length, getD};
 ghost use Rattle.list.specs.Pick.{pick};
-ghost use Rattle.digits.specs.Digits.{reading, isDelim};
+ghost use Rattle.digits.specs.Digits.{isDelim};
+ghost use Rattle.digits.specs.Tables.{reading};
 ghost use Rattle.vlq.specs.Vlq.{vlqAt};
 ghost use Rattle.vlq.specs.Several.{FewAt};
 

@@ -9,7 +9,7 @@ use lib.ListN.{length}
 use borrow.Author.Tests.{ltb-true, ltb-false}
 use Rattle.digits.specs.Digits.{charOf, digitOf, isDelim}
 use Rattle.digits.proofs.Tables.{char}
-use Rattle.vlq.specs.Vlq.{num, digitsFrom, answer, vlqOf}
+use Rattle.vlq.specs.Vlq.{num, digitsFrom, vlqFrom, vlqOf}
 use Rattle.vlq.proofs.Values.{tail-size, tail-under}
 use Rattle.vlq.proofs.Steps.{tail-last, tail-more}
 use Rattle.vlq_write.specs.Write.{digitsOf, writeOf}
@@ -51,7 +51,7 @@ pub reads : (n : ℕ) (post : List ℕ) → n < 2 ^ 65 → digitsFrom 13 (writeO
 reads n post h = reads-from n 13 n post (omega arith) (omega arith) h
 
 -- a number begins with a digit, so a value stands where it is written
-begins-by : (t : Bool) (at n : ℕ) (post : List ℕ) → ltb n 32 ≡ t → vlqOf at (writeOf n ++ post) ≡ answer at (digitsFrom 13 (writeOf n ++ post))
+begins-by : (t : Bool) (at n : ℕ) (post : List ℕ) → ltb n 32 ≡ t → vlqOf at (writeOf n ++ post) ≡ vlqFrom at (digitsFrom 13 (writeOf n ++ post))
 unfolding vlqOf
 begins-by true at n post e =
     let p = ltb-true n 32 e in
@@ -61,8 +61,8 @@ begins-by false at (suc f) post e =
     let p = ltb-false (suc f) 32 e in
     rw (digits-more f (suc f) p, char (suc f % 32 + 32) (omega arith) .delim)
 
-pub stands : (at n : ℕ) (post : List ℕ) → n < 2 ^ 65 → vlqOf at (writeOf n ++ post) ≡ answer at (num n (length (writeOf n)))
-stands at n post h = begins-by (ltb n 32) at n post refl ∙ ap (answer at) (reads n post h)
+pub stands : (at n : ℕ) (post : List ℕ) → n < 2 ^ 65 → vlqOf at (writeOf n ++ post) ≡ vlqFrom at (num n (length (writeOf n)))
+stands at n post h = begins-by (ltb n 32) at n post refl ∙ ap (vlqFrom at) (reads n post h)
 
 -- the first byte is no delimiter
 pub record Begins (n : ℕ) : Type 0 where

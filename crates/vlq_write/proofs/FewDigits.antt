@@ -10,7 +10,7 @@ use borrow.Author.Tests.{lt-ltb, le-ltb, eq-eqb, ne-eqb}
 use Rattle.list.specs.Pick.{pick}
 use Rattle.digits.specs.Digits.{charOf}
 use Rattle.vlq_write.specs.Few.{Few, GoesOn, lowChar}
-use Rattle.vlq_write.specs.Put.{Put}
+use Rattle.list.specs.Put.{Put}
 use Rattle.vlq_write.specs.Size.{Reaches}
 use Rattle.vlq_write.specs.Write.{writeOf}
 use Rattle.vlq_write.proofs.Digits.{few}

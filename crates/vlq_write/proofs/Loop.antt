@@ -5,7 +5,7 @@ use Prim.Native.Nat.{ℕ, suc, _+_, _-_, _/_, _%_, _<_, _≤_}
 use native.Mathlib.Omega.{arith}
 use lib.ListN.{length, set}
 use Rattle.digits.specs.Digits.{charOf}
-use Rattle.vlq_write.specs.Put.{Put}
+use Rattle.list.specs.Put.{Put}
 use Rattle.vlq_write.specs.Write.{digitsOf, writeOf}
 use Rattle.vlq_write.proofs.Put.{Due, due-all, due-is, due-same, due-room, due-byte, due-none}
 use Rattle.vlq_write.proofs.Digits.{digits-last, digits-more, digits-some}

@@ -6,7 +6,7 @@ use native.Mathlib.Omega.{arith}
 use lib.ListN.{length, set, length-append}
 use Rattle.list.specs.Memory.{blit}
 use Rattle.list.proofs.Memory.{blit-nil, blit-set, blit-blit, length-blit}
-use Rattle.vlq_write.specs.Put.{Put}
+use Rattle.list.specs.Put.{Put}
 
 pub put-nothing : (out : List ℕ) (at : ℕ) → Put out at [] at out
 put-nothing out at = record { past = omega arith; wrote = sym (blit-nil out at) }

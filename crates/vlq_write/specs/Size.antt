@@ -1,3 +1,4 @@
+-- Helpers: what inner contracts and proofs need; no contract of an entry and no theorem reaches this file.
 -- What is said of sizes. Assumes nothing.
 use mathlib.Core.Path.{_≡_}
 use Prim.Native.Nat.{ℕ, _≤_}

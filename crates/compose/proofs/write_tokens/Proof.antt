@@ -2,7 +2,6 @@ use Rattle.compose.proofs.Turn.{Sofar, begin, long-result, long-added, 
 use Prim.Native.Nat.{_-_}
 use native.Mathlib.Omega.{arith}
 use borrow.Author.Needs.{needs}
-use Rattle.compose.proofs.Turn.{Sofar, begin, long-result, long-added, in-added, searchable, in-result, has-room, turn, ended}
 use Rattle.compose.proofs.write_tokens.Statement.{statement}
 use Rattle.compose.proofs.write_tokens.Tie as tie
 

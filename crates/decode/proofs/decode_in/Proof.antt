@@ -1,6 +1,6 @@
 -- `decode::decode_in` meets its contract. Assumes nothing.
 use mathlib.Core.Path.{refl}
-use Rattle.digits.specs.Digits.{reading, shortReading}
+use Rattle.digits.specs.Tables.{reading, shortReading}
 use borrow.Author.Needs.{needs}
 use Rattle.decode.proofs.decode_in.Statement.{statement}
 use Rattle.decode.proofs.decode_in.Tie as tie

@@ -1,7 +1,7 @@
 -- `digits::code_of` meets its contract. Assumes nothing.
 use mathlib.Core.Path.{sym, ap, _∙_}
 use native.Mathlib.Omega.{arith}
-use Rattle.digits.specs.Digits.{codeOf}
+use Rattle.digits.specs.Digits.{classOf}
 use Rattle.digits.proofs.Ranges.{capital, small, figure, plus, other, comma, semicolon}
 use borrow.Author.Needs.{needs}
 use Rattle.digits.proofs.code_of.Statement.{statement}
@@ -17,10 +17,10 @@ returns : tie.Need-returns
 returns c = sym (plus (c .before .args .b) (λ p. omega arith) (λ p. omega arith) (λ p q. omega arith) (λ p q. omega arith) (λ p q. omega arith) (c .match .keys1))
 
 returns-2 : tie.Need-returns-2
-returns-2 c = sym (ap codeOf (c .match .keys2) ∙ comma)
+returns-2 c = sym (ap classOf (c .match .keys2) ∙ comma)
 
 returns-3 : tie.Need-returns-3
-returns-3 c = sym (ap codeOf (c .match .keys3) ∙ semicolon)
+returns-3 c = sym (ap classOf (c .match .keys3) ∙ semicolon)
 
 returns-4 : tie.Need-returns-4
 returns-4 c = sym (figure (c .before .before .before .args .b) (λ p. omega arith) (λ p. omega arith) (λ p q. omega arith) (λ p q. omega arith) (omega arith) (omega arith))

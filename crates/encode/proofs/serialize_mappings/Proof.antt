@@ -3,7 +3,7 @@ use mathlib.Core.Path.{_≡_, refl, sym, _∙_}
 use lib.ListN.{length}
 use borrow.Author.Needs.{needs}
 use Rattle.token.specs.Table.{badTable}
-use Rattle.digits.specs.Digits.{writing}
+use Rattle.digits.specs.Tables.{writing}
 use Rattle.vlq_write.specs.Near.{nearWriting}
 use Rattle.encode.specs.Passes.{Inside}
 use Rattle.encode.proofs.Answer.{inside, bad-table, out-of-order, out-of-table, goes-back, no-room, writable, done}

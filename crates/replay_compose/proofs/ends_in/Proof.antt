@@ -2,8 +2,7 @@ use Prim.Native.Nat.{_≤_, _-_}
 use mathlib.Core.Path.{_≡_, sym}
 use native.Mathlib.Omega.{arith}
 use lib.Seq.{length-take-le}
-use lib.ListN.{length-set}
-use lib.ListN.{length}
+use lib.ListN.{length-set, length}
 use borrow.Author.Needs.{needs}
 use Rattle.replay_compose.proofs.ends_in.Statement.{statement}
 use Rattle.replay_compose.proofs.ends_in.Tie as tie

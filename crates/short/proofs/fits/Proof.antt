@@ -2,9 +2,7 @@
 use Rattle.short.proofs.Laws.{fit-none, fit-some}
 use mathlib.Core.Bool.{true, false}
 use lib.Dec.{T}
-use mathlib.Core.Path.{subst}
-use mathlib.Core.Path.{_≡_, sym}
-use Rattle.short.proofs.Laws.{fit-none, fit-some}
+use mathlib.Core.Path.{subst, _≡_, sym}
 use borrow.Author.Needs.{needs}
 use Rattle.short.proofs.fits.Statement.{statement}
 use Rattle.short.proofs.fits.Tie as tie

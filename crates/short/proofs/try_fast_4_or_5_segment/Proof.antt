@@ -1,7 +1,6 @@
 -- `short::try_fast_4_or_5_segment` meets its contract. Assumes nothing.
 use Rattle.short.proofs.Laws.{shaped, unshaped, at-most-five}
 use native.Mathlib.Omega.{arith}
-use Rattle.short.proofs.Laws.{shaped, at-most-five}
 use borrow.Author.Needs.{needs}
 use Rattle.short.proofs.try_fast_4_or_5_segment.Statement.{statement}
 use Rattle.short.proofs.try_fast_4_or_5_segment.Tie as tie

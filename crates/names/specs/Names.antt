@@ -13,6 +13,10 @@ pub record NameList : Type 0 where
   pub text : List ℕ
   pub ends : List ℕ
 
+-- a lent text and its lent ends
+abbrev pub nameList : List ℕ → List ℕ → NameList
+nameList text ends = record { text = text; ends = ends }
+
 abbrev pub count : NameList → ℕ
 count l = length (l .ends)
 

@@ -11,6 +11,7 @@ use Rattle.decode.specs.Mapping.{Decodes}
 use Rattle.decode.specs.declared.Decoded.{Decoded}
 use Rattle.encode.specs.Encode.{Encodes}
 use Rattle.encode.specs.declared.Encoded.{Encoded}
+use Rattle.premises.specs.Premises.{Decides}
 use Rattle.translate.specs.Translate.{Translates}
 use Rattle.records.specs.Records.{answerOf}
 use Rattle.records.specs.declared.Answer.{Answer}
@@ -23,6 +24,15 @@ use Rattle.peghayrick.specs.declared.ComposedOut.{ComposedOut}
 use Rattle.peghayrick.specs.declared.NameOut.{NameOut}
 use Rattle.peghayrick.specs.declared.DecodedOut.{DecodedOut}
 use Rattle.peghayrick.specs.declared.EncodedOut.{EncodedOut}
+
+-- 0.2.0: major, minor and patch, three figures each
+abbrev pub version : ℕ
+version = 2000
+
+-- 1 for yes
+abbrev pub flag : Bool → ℕ
+flag true = 1
+flag false = 0
 
 abbrev pub decodedOut : Decoded → DecodedOut
 decodedOut d = record { code = codeOf (d .code); number = numberOf (d .code); tokens = d .tokens; offset = d .offset }
@@ -58,10 +68,10 @@ pub record ComposesOut (m : Maps) (result added : List ℕ) (r : ComposedOut) (r
   pub composes : Composes m result added inner result′ added′
   pub says : r ≡ composedOut inner
 
--- 1 for yes
-abbrev pub flag : Bool → ℕ
-flag true = 1
-flag false = 0
-
 abbrev pub nameOut : NamePlace → NameOut
 nameOut p = record { found = flag (p .found); outer = flag (p .outer); start = p .start; end = p .end }
+
+pub record MeetsOut (table : List ℕ) (sources names r : ℕ) : Type 0 where
+  pub inner : Bool
+  pub decides : Decides table sources names inner
+  pub says : r ≡ flag inner

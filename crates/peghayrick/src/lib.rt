@@ -9,10 +9,11 @@ use token::Token;
 use token::TokenChunk;
 ghost use mathlib.Core.Path.{_≡_};
 ghost use Rattle.value.specs.declared.Mode.{Mode};
-ghost use Rattle.names.specs.Names.{placeOf};
+ghost use Rattle.names.specs.Names.{nameList, placeOf};
+ghost use Rattle.table_size.specs.Size.{tableSize};
 ghost use Rattle.compose.specs.Compose.{mapsOf};
 ghost use Rattle.records.specs.Records.{TranslatesRecords, answerOf};
-ghost use Rattle.peghayrick.specs.Exports.{decodedOut, DecodesOut, encodedOut, EncodesOut, TranslatesOut, LooksOut, composedOut, ComposesOut, flag, nameOut};
+ghost use Rattle.peghayrick.specs.Exports.{version, decodedOut, DecodesOut, encodedOut, EncodesOut, TranslatesOut, LooksOut, composedOut, ComposesOut, flag, nameOut, MeetsOut};
 
 // A decode's code and number, how many tokens it wrote, and the offset.
 #[repr(C)]
@@ -109,6 +110,30 @@ fn answer_out(c: Code) -> Answer
         code: code::code_of(c),
         number: code::number_of(c),
     }
+}
+
+// What the header's PGK_VERSION must be.
+#[no_mangle]
+pub extern "C" fn pgk_version() -> u64
+    ensures { λ r. ⌜ r ≡ version ⌝ }
+{
+    2000
+}
+
+// The numbers that a table needs so that decoding the text never says TableFull.
+#[no_mangle]
+pub extern "C" fn pgk_table_size(text: &[u8]) -> usize
+    ensures { λ r. ⌜ r ≡ tableSize (now (text .entry)) ⌝ }
+{
+    table_size::table_size(text)
+}
+
+// 1 where what is written of the table surely reads back, else 0.
+#[no_mangle]
+pub extern "C" fn pgk_meets_premises(table: &[u32], sources: u32, names: u32) -> u64
+    ensures { λ r. ⌜ MeetsOut (now (table .entry)) sources names r ⌝ }
+{
+    flag_of(premises::meets_premises(table, sources, names))
 }
 
 // The decode that names no mode: lenient.
@@ -222,7 +247,7 @@ pub extern "C" fn pgk_name_of(
     added: &[u32],
     id: u32,
 ) -> NameOut
-    ensures { λ r. ⌜ r ≡ nameOut (placeOf (record { text = now («inner_names» .entry); ends = now («inner_ends» .entry) }) (record { text = now («outer_names» .entry); ends = now («outer_ends» .entry) }) (now (added .entry)) id) ⌝ }
+    ensures { λ r. ⌜ r ≡ nameOut (placeOf (nameList (now («inner_names» .entry)) (now («inner_ends» .entry))) (nameList (now («outer_names» .entry)) (now («outer_ends» .entry))) (now (added .entry)) id) ⌝ }
 {
     name_out(names::name_place(inner_names, inner_ends, outer_names, outer_ends, added, id))
 }

@@ -23,12 +23,13 @@ use Rattle.lookup.proofs.Best as lookup
 use Rattle.names.specs.Names.{NameList, placeOf}
 use Rattle.compose.specs.Compose.{Maps}
 use Rattle.compose.proofs.Unique as compose
+use Rattle.premises.proofs.Unique as premises
 use Rattle.peghayrick.specs.declared.DecodedOut.{DecodedOut}
 use Rattle.peghayrick.specs.declared.EncodedOut.{EncodedOut}
 use Rattle.peghayrick.specs.declared.ComposedOut.{ComposedOut}
 use Rattle.peghayrick.specs.declared.NameOut.{NameOut}
-use Rattle.peghayrick.specs.Exports.{decodedOut, DecodesOut, encodedOut, EncodesOut, TranslatesOut, LooksOut, composedOut, ComposesOut, nameOut}
-use Rattle.round.specs.Demand3.{ChunksJoin, RoundTrip, LenientRoundTrip, TableRoundTrip, WriteAndRead, CutAndRead, OneText}
+use Rattle.peghayrick.specs.Exports.{decodedOut, DecodesOut, encodedOut, EncodesOut, TranslatesOut, LooksOut, composedOut, ComposesOut, flag, nameOut, MeetsOut}
+use Rattle.round.specs.Demand3.{ChunksJoin, WriteAndRead, CutAndRead, SurelyReadsBack, OneText}
 use Rattle.round.proofs.Demand3 as round
 
 -- ---- demand 1: each exported entry has one answer, and leaves one content of what is lent
@@ -77,27 +78,31 @@ pub one-name : (inner outer : NameList) (added : List ℕ) (id : ℕ) (r s : Nam
     → r ≡ nameOut (placeOf inner outer added id) → s ≡ nameOut (placeOf inner outer added id) → r ≡ s
 one-name inner outer added id r s a b = a ∙ sym b
 
+-- pgk_meets_premises
+pub one-meets : (table : List ℕ) (sources names r s : ℕ) → MeetsOut table sources names r → MeetsOut table sources names s → r ≡ s
+one-meets table sources names r s a b =
+    a .says ∙ ap flag (premises.one-answer table sources names (a .inner) (b .inner) (a .decides) (b .decides)) ∙ sym (b .says)
+
+-- pgk_version and pgk_table_size answer by an equation
+
 -- ---- demand 3
 
--- wherever a table is cut, joined bytes and end state are those of one call
+-- wherever a table is cut, it is written as one call would write it
 pub chunks-join : ChunksJoin
 chunks-join = round.chunks-join
 
--- lenient decoding of what is written gives the table
-pub lenient-round-trip : LenientRoundTrip
-lenient-round-trip = round.lenient-round-trip
-
--- checked decoding too, where checked mode takes every value that is written
-pub checked-round-trip : RoundTrip Mode.Checked
-checked-round-trip = round.checked-round-trip
-
--- by the entries' contracts: a table written whole, or in any chunks, and decoded is itself again
-pub write-and-read : (mode : Mode) → WriteAndRead mode
+-- a table that meets the premises, written whole, or in any chunks, and decoded is itself again: in lenient mode, and in checked mode
+-- where that takes every value that is written
+pub write-and-read : WriteAndRead
 write-and-read = round.write-and-read
 
-pub cut-and-read : (mode : Mode) → CutAndRead mode
+pub cut-and-read : CutAndRead
 cut-and-read = round.cut-and-read
 
--- two different tables never make the same text
+-- so where `meets_premises` says yes, what is written surely reads back
+pub surely-reads-back : SurelyReadsBack
+surely-reads-back = round.surely-reads-back
+
+-- two different tables never make the same text, each cut as it likes
 pub one-text : OneText
 one-text = round.one-text

@@ -8,7 +8,9 @@ use Rattle.token.specs.declared.Token.{Token}
 use Rattle.digits.specs.Digits.{digitOf, isDelim}
 use Rattle.value.specs.Value.{valueOf}
 use Rattle.value.specs.declared.Mode.{Mode}
-use Rattle.vlq.specs.Vlq.{digitsFrom, vlqOf}
+use lib.IntN.{negsuc}
+use Rattle.vlq.specs.Vlq.{digitsFrom, vlqOf, vlqAt}
+use Rattle.vlq.specs.declared.Vlq.{Vlq}
 use Rattle.segment.specs.Segment.{fieldsFrom}
 use Rattle.sums.specs.Sums.{reducedOf, sumOf, idOf, nameSumOf}
 use Rattle.apply.specs.Apply.{columned, mapped, named, four, five, counted, applied}
@@ -74,3 +76,8 @@ pub worked-texts : Each worked
 unfolding digitOf isDelim valueOf digitsFrom vlqOf fieldsFrom reducedOf sumOf idOf nameSumOf columned mapped named four five counted applied offsetOf segmentStep stepFrom run
 worked-texts =
     ((refl, refl), ((refl, refl), ((refl, refl), ((refl, refl), ((refl, refl), ((refl, refl), ((refl, refl), ((refl, refl), ((refl, refl), ((refl, refl), ((refl, refl), ((refl, refl), ((refl, refl), tt)))))))))))))
+
+-- `!A`: the bytes read as 63 and 0, so the number is 31, and the value -15 in both modes
+pub value-of-a-bad-byte : (vlqAt (33 ∷ 65 ∷ []) 0 ≡ Vlq.Value 31 0 2) × ((valueOf Mode.Lenient 31 0 ≡ negsuc 14) × (valueOf Mode.Checked 31 0 ≡ negsuc 14))
+unfolding digitOf isDelim valueOf digitsFrom vlqOf
+value-of-a-bad-byte = (refl, (refl, refl))

@@ -1,5 +1,5 @@
 -- The bytes and the end state of a list in pieces, and of a table in successive calls. Assumes nothing.
-use mathlib.Core.Path.{_≡_, refl, _∙_, ap, ap₂}
+use mathlib.Core.Path.{_≡_, refl, _∙_, ap, ap₂, subst}
 use mathlib.Core.Bool.{Bool, true, false}
 use mathlib.Core.List.{List, [], _∷_, _++_}
 use mathlib.Core.Option.{Option, none, some}
@@ -89,14 +89,6 @@ module _ (table : List ℕ) (c : TokenChunk) (out : List ℕ) (r : Encoded) (out
       rw (w .says ∙ e, o) (take-append-seam (bytesIn table c) (drop (length (bytesIn table c)) out))
 
 -- ---- successive calls
-cut-ends : (table : List ℕ) (c : TokenChunk) → Cut table c [] → c .start ≡ places (length table)
-unfolding Cut
-cut-ends table c u = u
-
-cut-cons : (table : List ℕ) (c : TokenChunk) (k : Call) (ks : List Call) → Cut table c (k ∷ ks) → Made table c k × Cut table (k .answer .next) ks
-unfolding Cut
-cut-cons table c k ks u = u
-
 module _ (table : List ℕ) (g : badTable (length table) ≡ false) where
   -- the tokens from the i-th on
   abbrev rest : ℕ → List Token
@@ -115,13 +107,13 @@ module _ (table : List ℕ) (g : badTable (length table) ≡ false) where
     pub last : lastState (nextChunk i p) ks ≡ nextChunk (places (length table)) (endOf p (rest i))
 
   joins : (ks : List Call) (i : ℕ) (p : TokenChunk) → Cut table (nextChunk i p) ks → firstBack i (p .«prev_dst_line») (rest i) ≡ none → Joins i p ks
-  unfolding AllDone joined lastState written endOf
+  unfolding Cut AllDone joined lastState written endOf
   joins [] i p u f =
-      let n : i ≡ places (length table) = cut-ends table (nextChunk i p) u in
+      let n : i ≡ places (length table) = u in
       let z : rest i ≡ [] = tokens-none table i (places (length table)) (omega arith) in
       record { done = tt; bytes = rw z; last = rw (z, ← n) }
   joins (k ∷ ks) i p u f =
-      let (m, u′) = cut-cons table (nextChunk i p) k ks u in
+      let m : Made table (nextChunk i p) k = u .0 in
       let a : List Token = tokensFrom table i (k .end - i) in
       let q : TokenChunk = spanned i (k .end) p in
       let c : rest i ≡ a ++ rest (k .end) = rest-cut i (k .end) (m .order) (m .within) in
@@ -133,11 +125,11 @@ module _ (table : List ℕ) (g : badTable (length table) ≡ false) where
       = ap (λ (z : Encoded). z .next) r ∙ ap (nextChunk (k .end)) (end-spanned i (k .end) p a) in
       let h : take (k .answer .bytes) (k .out′) ≡ written i p a
       = handed table q (k .out) (k .answer) (k .out′) (m .meets) (nextChunk (k .end) (endOf q a)) e ∙ written-spanned i i (k .end) p a in
-      let t = joins ks (k .end) (endOf p a) (rw x at u′) (rw n at f₂) in
+      let t = joins ks (k .end) (endOf p a) (subst (λ (z : TokenChunk). Cut table z ks) x (u .1)) (rw n at f₂) in
       record {
         done = (ap (λ (z : Encoded). z .code) r, t .done);
         bytes = ap₂ _++_ h (t .bytes) ∙ rw (c, written-append i p a (rest (k .end)), n);
-        last = rw x (t .last) ∙ rw (c, endOf-append p a (rest (k .end)));
+        last = rw (x, c, endOf-append p a (rest (k .end))) (t .last);
       }
 
   pub joins-whole : (ks : List Call) → firstBack 0 0 (tokensOf table) ≡ none → Cut table (fresh 0 0) ks → Joins 0 (fresh 0 0) ks

@@ -85,5 +85,6 @@ one-text sources names sources′ names′ a b ks ls s t u v e =
     let q = back Mode.Lenient (sources + sources′) (names + names′) k (tokensOf b)
     (sound-more sources′ names′ (sources + sources′) (names + names′) (omega arith) (omega arith) (tokensOf b) (sound-tokens sources′ names′ b t))
     (takes-all Mode.Lenient (tokensOf b)) (omega arith) in
-    let same : tokensOf a ≡ tokensOf b = ap (λ (o : Out). o .tokens) (sym p ∙ rw (sym x ∙ e ∙ y) q) in
+    let z : textOf (tokensOf a) ≡ textOf (tokensOf b) = sym x ∙ e ∙ y in
+    let same : tokensOf a ≡ tokensOf b = ap (λ (o : Out). o .tokens) (sym (rw z at p) ∙ q) in
     sym (flat-tokens a (not-bad sources names a s)) ∙ rw same (flat-tokens b (not-bad sources′ names′ b t))

@@ -12,6 +12,8 @@ use Rattle.token.specs.declared.Token.{Token}
 use Rattle.token.specs.declared.TokenChunk.{TokenChunk}
 use Rattle.value.specs.declared.Mode.{Mode}
 use Rattle.decode.proofs.Unique as decode
+use Rattle.table_size.specs.Size.{NeverFull}
+use Rattle.table_size.proofs.Enough as size
 use Rattle.encode.proofs.Unique as encode
 use Rattle.translate.proofs.Whole as translate
 use Rattle.records.specs.declared.Answer.{Answer}
@@ -83,7 +85,9 @@ pub one-meets : (table : List ℕ) (sources names r s : ℕ) → MeetsOut table 
 one-meets table sources names r s a b =
     a .says ∙ ap flag (premises.one-answer table sources names (a .inner) (b .inner) (a .decides) (b .decides)) ∙ sym (b .says)
 
--- pgk_version and pgk_table_size answer by an equation
+-- pgk_version and pgk_table_size answer by an equation; a table of the size that pgk_table_size answers is never full
+pub never-full : NeverFull
+never-full = size.never
 
 -- ---- demand 3
 

@@ -57,9 +57,10 @@ forth sources names xs s = never-back sources names 0 0 0 0 (tokensOf xs) (sound
 
 pub write-and-read : WriteAndRead
 write-and-read sources names xs out e out′ s r w =
-    let q = whole-call xs (length out) (not-bad sources names xs s) (forth sources names xs s) r in
-    (ap (λ (x : Encoded). x .code) (w .says ∙ q),
-    reads-back sources names xs (take (e .bytes) out′) s (handed xs (whole xs) out e out′ w _ q ∙ whole-bytes xs))
+    let q = whole-call xs (length out) (not-bad sources names xs s) (forth sources names xs s) r in (
+      ap (λ (x : Encoded). x .code) (w .says ∙ q),
+      reads-back sources names xs (take (e .bytes) out′) s (handed xs (whole xs) out e out′ w _ q ∙ whole-bytes xs),
+    )
 
 -- the calls over a table that meets the premises hand over its tokens' text
 cut-text : (sources names : ℕ) (xs : List ℕ) (ks : List Call) → SoundTable sources names xs → Cut xs (fresh 0 0) ks → AllDone ks × (joined ks ≡ textOf (tokensOf xs))

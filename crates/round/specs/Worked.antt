@@ -38,10 +38,13 @@ three =
 
 pub cut-pair : Cut pair (fresh 0 0) three
 unfolding Cut onto encoded firstBack endOf tokensFrom tokenAt written bytesOf lead spelled fieldsOf baseOf after vlqValue digitsOf charOf
-cut-pair =
-    (record { order = omega arith; within = omega arith; room = omega arith; meets = record { says = refl; wrote = refl } },
-    (record { order = omega arith; within = omega arith; room = omega arith; meets = record { says = refl; wrote = refl } },
-    (record { order = omega arith; within = omega arith; room = omega arith; meets = record { says = refl; wrote = refl } }, refl)))
+cut-pair = (
+  record { order = omega arith; within = omega arith; room = omega arith; meets = record { says = refl; wrote = refl } },
+  (
+    record { order = omega arith; within = omega arith; room = omega arith; meets = record { says = refl; wrote = refl } },
+    (record { order = omega arith; within = omega arith; room = omega arith; meets = record { says = refl; wrote = refl } }, refl),
+  ),
+)
 
 pub joined-pair : joined three ≡ 65 ∷ 65 ∷ 69 ∷ 71 ∷ 59 ∷ 67 ∷ []
 unfolding joined

@@ -84,8 +84,9 @@ fn built() -> Result<PathBuf, String> {
     if !archive.is_file() {
         return Err(format!("rt wrote no {}", archive.display()));
     }
+    // Cargo shows this when the script ends, and again at later builds: it is true then too.
     println!(
-        "cargo:warning=`rt staticlib peghayrick` proved and built {ARCHIVE} in {} s; it runs again only when crates/ or crates.txt changes, and never with {FOLDER} set",
+        "cargo:warning=the last run of `rt staticlib peghayrick`, which proves and builds {ARCHIVE}, took {} s; it runs again only when crates/ or crates.txt changes, and never with {FOLDER} set",
         begun.elapsed().as_secs()
     );
     Ok(archive)

@@ -26,7 +26,7 @@
 //!
 //! # Which decode
 //! [`decode_checked`] is the one for a screen: it refuses a number that leaves 32 bits. [`decode_lenient`], and
-//! [`decode_mapping`], which names no mode, drop the upper bits, as other readers do. A refused map must not be
+//! [`decode_mapping`], which names no mode, drop the upper bits, as oxc_sourcemap does. A refused map must not be
 //! looked up, although the tokens before the refused segment are in the table.
 //!
 //! # Tables
@@ -235,7 +235,8 @@ pub fn serialize_mappings(table: &[u32], chunk: TokenChunk, out: &mut [u8]) -> R
 /// that table: lines do not go back, ids are none or below their counts, no name stands without a source, and a token
 /// without a source repeats the source position of the latest token with one (0, 0 before any). `false` for a bad table.
 ///
-/// A decoded table meets them; one that was made, translated or composed need not.
+/// A table that was decoded by these counts meets them, unless its text has 2^32 `;`; one that was made, translated or
+/// composed need not.
 ///
 /// ```
 /// use peghayrick::{meets_premises, table_of, Token};

@@ -23,8 +23,8 @@ fn main() {
 
 fn run() -> Result<(), String> {
     let archive = match env::var_os(FOLDER) {
-        Some(folder) => lent(Path::new(&folder))?,
-        None => built()?,
+        Some(folder) if !folder.is_empty() => lent(Path::new(&folder))?,
+        _ => built()?,
     };
     let out = PathBuf::from(env::var_os("OUT_DIR").ok_or("run this by cargo")?);
     fs::copy(&archive, out.join(ARCHIVE))

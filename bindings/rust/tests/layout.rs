@@ -1,9 +1,11 @@
-//! Holds the Rust structs, constants and words to those of the C header: `bindings/test` builds `bindings/tests/layout.c`,
-//! and names what it printed in `PEGHAYRICK_LAYOUT`.
+//! Holds the Rust structs, constants and words to those of the C header, which `bindings/tests/layout.c` prints. `bindings/test`
+//! names what it printed in `PEGHAYRICK_LAYOUT`; without that, it is built here.
 
 use core::mem::{align_of, offset_of, size_of};
 use peghayrick::{raw, Refusal, Stop, Token, TokenChunk, NONE, VERSION, WIDTH};
 use std::fmt::Write;
+use std::path::Path;
+use std::process::Command;
 
 fn width<S, F>(_: fn(&S) -> &F) -> usize {
     size_of::<F>()
@@ -73,10 +75,22 @@ fn upper(name: &str) -> String {
     out
 }
 
+/// What layout.c prints.
+fn c() -> String {
+    if let Some(path) = std::env::var_os("PEGHAYRICK_LAYOUT") {
+        return std::fs::read_to_string(path).expect("what layout.c printed");
+    }
+    let bindings = Path::new(env!("CARGO_MANIFEST_DIR")).join("..");
+    let program = Path::new(env!("CARGO_TARGET_TMPDIR")).join("layout");
+    let mut cc = Command::new("cc");
+    cc.arg("-I").arg(bindings.join("c")).arg(bindings.join("tests/layout.c")).arg("-o").arg(&program);
+    assert!(cc.status().expect("cc, or run bindings/test").success());
+    String::from_utf8(Command::new(program).output().expect("layout").stdout).expect("text")
+}
+
 #[test]
 fn both_have_the_same_structs_constants_and_words() {
-    let path = std::env::var_os("PEGHAYRICK_LAYOUT").expect("run bindings/test, which builds the C side");
-    assert_eq!(rust(), std::fs::read_to_string(path).expect("what layout.c printed"));
+    assert_eq!(rust(), c());
 }
 
 /// The sizes by number, so that both sides cannot move together.

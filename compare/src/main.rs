@@ -1,4 +1,4 @@
-//! Holds the library against the crate it was written from, and both against a plain model of document 01.
+//! Holds the library against the crate it was written from, and both against a plain model of docs/RULES.md.
 
 mod cases;
 mod composing;

@@ -1,4 +1,4 @@
-//! Document 01 as a plain program, written from its words and the readings of them. It is slow and has no tricks:
+//! docs/RULES.md as a plain program, written from the rules' words and apart from the library's code. It is slow and has no tricks:
 //! whole lists, wide integers, one rule after the other.
 
 pub const NONE: u32 = u32::MAX;

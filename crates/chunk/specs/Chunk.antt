@@ -1,4 +1,4 @@
--- Document 01, "Writing": the bytes of a list of tokens after a state, and the state that they leave. Assumes nothing.
+-- docs/RULES.md, Writing: the bytes of a list of tokens after a state, and the state that they leave. Assumes nothing.
 use mathlib.Core.Bool.{Bool}
 use mathlib.Core.List.{List, [], _∷_, _++_}
 use mathlib.Core.Option.{Option, none, some}

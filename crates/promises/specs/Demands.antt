@@ -1,6 +1,6 @@
--- What the library owes, by name, each put together from the laws of the parts. Assumes nothing.
+-- docs/RULES.md, Demands: what the library owes, by name, each put together from the laws of the parts. Assumes nothing.
 --
--- Demand 1: every entry takes every input and returns; bad input gets the refusal that document 01 names. Each entry's contract, which
+-- Demand 1: every entry takes every input and returns; bad input gets the refusal that the rules name. Each entry's contract, which
 -- the gate proves of its code with nothing asked of the caller, gives the complete answer; the theorems here say that each contract
 -- leaves one answer and one content of everything lent.
 -- Demand 2: the answers are those of the definitions, and the definitions give the worked texts (Worked.antt).

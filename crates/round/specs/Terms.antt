@@ -1,4 +1,4 @@
--- The terms in which demand 3 is said. Assumes nothing.
+-- docs/RULES.md, Demands: the terms in which demand 3 is said. Assumes nothing.
 use mathlib.Core.Path.{_≡_}
 use mathlib.Core.Bool.{Bool, true}
 use mathlib.Core.List.{List, [], _∷_, _++_}

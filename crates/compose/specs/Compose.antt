@@ -1,4 +1,4 @@
--- Document 01, "Lookup and composing": two maps into one. Assumes nothing.
+-- docs/RULES.md, Composing: two maps into one. Assumes nothing.
 use mathlib.Core.Path.{_≡_}
 use mathlib.Core.List.{List, [], _∷_}
 use mathlib.Core.Option.{Option, none, some}

@@ -146,7 +146,7 @@ fn write_tokens(
     count
 }
 
-// The first test that fails, in document 01's order; Done where none does.
+// The first test that fails, in the rules' order; Done where none does.
 fn refusal(
     outer: &[u32],
     outer_sources: u32,

@@ -1,4 +1,4 @@
--- Document 01, "Lookup and composing": name lists. Assumes nothing.
+-- docs/RULES.md, Names: name lists. Assumes nothing.
 use mathlib.Core.Bool.{Bool, true, false}
 use mathlib.Core.List.{List, [], _∷_}
 use mathlib.Core.Option.{Option, none, some}

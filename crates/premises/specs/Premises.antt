@@ -1,4 +1,4 @@
--- Demand 3's premises on a token table, as a test that computes. Assumes nothing.
+-- docs/RULES.md, Demands: demand 3's premises on a token table, as a test that computes. Assumes nothing.
 use mathlib.Core.Path.{_≡_}
 use mathlib.Core.Bool.{Bool, true, false}
 use mathlib.Core.List.{List, [], _∷_}

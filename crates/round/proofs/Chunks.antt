@@ -21,7 +21,7 @@ use Rattle.encode.specs.declared.Encoded.{Encoded}
 use Rattle.chunk.proofs.Lists.{written-append, endOf-append}
 use Rattle.chunk.specs.Chunk.{withEnds, baseOf, fieldsOf, bytesOf, after, written, endOf, firstBack}
 use Rattle.encode.specs.Encode.{tokensIn, bytesIn, nextChunk, encoded, Encodes}
-use Rattle.round.specs.Terms.{fresh, whole, Call, Made, Cut, joined, lastState, AllDone}
+use Rattle.round.specs.Terms.{fresh, whole, Call, Called, Cut, joined, lastState, AllDone}
 use Rattle.round.proofs.Round.{textOf}
 
 -- ---- lists
@@ -113,7 +113,7 @@ module _ (table : List ℕ) (g : badTable (length table) ≡ false) where
       let z : rest i ≡ [] = tokens-none table i (places (length table)) (omega arith) in
       record { done = tt; bytes = rw z; last = rw (z, ← n) }
   joins (k ∷ ks) i p u f =
-      let m : Made table (nextChunk i p) k = u .0 in
+      let m : Called table (nextChunk i p) k = u .0 in
       let a : List Token = tokensFrom table i (k .end - i) in
       let q : TokenChunk = spanned i (k .end) p in
       let c : rest i ≡ a ++ rest (k .end) = rest-cut i (k .end) (m .order) (m .within) in

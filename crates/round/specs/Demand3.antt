@@ -1,4 +1,4 @@
--- Demand 3, as statements: a table written in chunks is the table written at once, what is written reads back, and no two
+-- docs/RULES.md, demand 3, as statements: a table written in chunks is the table written at once, what is written reads back, and no two
 -- tables make one text. Each is proved in proofs/Demand3.antt. Assumes nothing.
 use mathlib.Core.Path.{_≡_}
 use mathlib.Core.Bool.{Bool, true, false}

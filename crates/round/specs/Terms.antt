@@ -1,4 +1,4 @@
--- The terms in which demand 3 is said. Assumes nothing.
+-- docs/RULES.md, Demands: the terms in which demand 3 is said. Assumes nothing.
 use mathlib.Core.Path.{_≡_}
 use mathlib.Core.Bool.{Bool, true}
 use mathlib.Core.List.{List, [], _∷_, _++_}
@@ -39,7 +39,7 @@ pub record Call : Type 0 where
   pub out′ : List ℕ
 
 -- a call whose chunk begins where c does: it ends there or later, and not past the table, has room for its bytes, and does what the writer promises
-pub record Made (table : List ℕ) (c : TokenChunk) (k : Call) : Type 0 where
+pub record Called (table : List ℕ) (c : TokenChunk) (k : Call) : Type 0 where
   pub order : c .start ≤ k .end
   pub within : k .end ≤ places (length table)
   pub room : length (bytesIn table (withEnds (c .start) (k .end) c)) ≤ length (k .out)
@@ -48,7 +48,7 @@ pub record Made (table : List ℕ) (c : TokenChunk) (k : Call) : Type 0 where
 -- successive calls up to the table's end: each gets the state that the call before it answered, the first gets c
 unfoldable pub Cut : List ℕ → TokenChunk → List Call → Type 0
 Cut table c [] = c .start ≡ places (length table)
-Cut table c (k ∷ ks) = Made table c k × Cut table (k .answer .next) ks
+Cut table c (k ∷ ks) = Called table c k × Cut table (k .answer .next) ks
 
 -- the bytes that they hand over, joined
 unfoldable pub joined : List Call → List ℕ

@@ -1,4 +1,4 @@
--- Document 01, "Translating". Assumes nothing.
+-- docs/RULES.md, Translating. Assumes nothing.
 use mathlib.Core.Path.{_≡_}
 use mathlib.Core.Bool.{Bool, true, false}
 use mathlib.Core.List.{List, [], _∷_}

@@ -30,6 +30,8 @@
  * rest of a refused answer is not a result.
  *
  * Order of use: pgk_table_size, pgk_decode_checked, pgk_lookup; bindings/examples/stop.c does it.
+ *
+ * docs/RULES.md has the exact rules, docs/TRUST.md what of this is proved, what is tested and what is trusted.
  */
 #ifndef PEGHAYRICK_H
 #define PEGHAYRICK_H

@@ -1,0 +1,11 @@
+-- Helpers: what inner contracts and proofs need; no contract of an entry and no theorem reaches this file.
+-- What a function that writes at most so many bytes says. Assumes nothing.
+use mathlib.Core.List.{List}
+use Prim.Native.Nat.{ℕ, _≤_}
+use lib.ListN.{length}
+use Rattle.list.specs.Put.{Put}
+
+-- bs, which are at most so many, stand at the place at, the rest is kept, and r is the place after them
+pub record PutMost (most : ℕ) (out : List ℕ) (at : ℕ) (bs : List ℕ) (r : ℕ) (out′ : List ℕ) : Type 0 where
+  pub put : Put out at bs r out′
+  pub few : length bs ≤ most

@@ -27,7 +27,7 @@ figure d = 48 + d
 -- the figures of n, the highest first: those of n / 10, and then the last; at most `steps` before the last
 unfoldable pub figuresIn : ℕ → ℕ → List ℕ
 figuresIn zero n = figure n ∷ []
-figuresIn (suc steps) n = pick (ltb n 10) (figure n ∷ []) (figuresIn steps (n / 10) ++ (figure (n % 10) ∷ []))
+figuresIn (suc steps) n = let more : List ℕ = figuresIn steps (n / 10) ++ (figure (n % 10) ∷ []) in pick (ltb n 10) (figure n ∷ []) more
 
 -- as many steps as the number itself are always enough
 abbrev pub figuresOf : ℕ → List ℕ

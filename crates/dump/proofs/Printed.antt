@@ -1,7 +1,6 @@
 -- What is printed for an input, by its length and its first line, and where it stands. Assumes nothing.
 use mathlib.Core.Path.{_≡_, refl, ap, sym, _∙_}
-use mathlib.Core.Bool.{Bool, true, false}
-use mathlib.Core.List.{List, _++_}
+use mathlib.Core.List.{List}
 use Prim.Native.Nat.{ℕ, _-_, _≤_, _<_}
 use native.Mathlib.Omega.{arith}
 use lib.ListN.{length, take, drop, length-drop}
@@ -14,12 +13,11 @@ use Rattle.encode.proofs.Write.{put-onto}
 use Rattle.value.specs.declared.Mode.{Mode}
 use Rattle.decode.specs.Mapping.{decoded}
 use Rattle.first_line.specs.FirstLine.{Reads}
-use Rattle.first_line.specs.Reading.{firstLine}
 use Rattle.first_line.specs.declared.FirstLine.{FirstLine}
 use Rattle.first_line.proofs.Line.{reads-computed}
 use Rattle.lines.specs.Lines.{line, inputLine}
-use Rattle.lines.specs.Most.{PutMost}
-use Rattle.dump.specs.Rendered.{report, renderedBy, rendered, Renders, handed}
+use Rattle.lines.specs.Parts.{PutMost}
+use Rattle.dump.specs.Rendered.{report, renderedBy, rendered, Renders}
 
 input-long : length inputLine ≡ 6
 unfolding line
@@ -60,58 +58,18 @@ module _ (input : List ℕ) where
         let o = put-onto out (rendered input) r out′ (p .put) in
         record { says = o .0; wrote = o .1; whole = omega (arith, p .few) }
 
+-- what the caller hands over is the start of the lent bytes, and that is what is printed
+module _ (input out : List ℕ) (r : ℕ) (out′ : List ℕ) (f : Renders input out r out′) where
+  pub within : r ≤ length out′
+  within = rw (f .wrote, length-onto (rendered input) out (f .whole), f .says) (f .whole)
+
+  pub part-long : r ≡ length (take r out′)
+  part-long = sym (length-take-le r out′ within)
+
+  pub part-is : take r out′ ≡ rendered input
+  unfolding onto
+  part-is = rw (f .wrote, f .says) (take-at (rendered input) (drop (length (rendered input)) out) (length (rendered input)) refl)
+
 -- the contract leaves one answer, and one content of the lent bytes
 pub one-answer : (input out : List ℕ) (r s : ℕ) (x y : List ℕ) → Renders input out r x → Renders input out s y → (r ≡ s) × (x ≡ y)
 one-answer input out r s x y a b = (a .says ∙ sym (b .says), a .wrote ∙ sym (b .wrote))
-
--- ---- what is handed over
-
-pub handed-whole : (read : List ℕ) → handed read false ≡ rendered read
-unfolding handed
-handed-whole read = refl
-
-pub handed-longer : (read rest : List ℕ) → 16384 < length (read ++ rest) → handed read true ≡ rendered (read ++ rest)
-unfolding handed
-handed-longer read rest h = sym (too-long (read ++ rest) h)
-
--- the start of the lent bytes, where bs stand
-module _ (out bs : List ℕ) (r : ℕ) (out′ : List ℕ) (says : r ≡ length bs) (wrote : out′ ≡ onto bs out) (whole : length bs ≤ length out) where
-  part-within : r ≤ length out′
-  part-within = rw (wrote, length-onto bs out whole, says) whole
-
-  part-long : r ≡ length (take r out′)
-  part-long = sym (length-take-le r out′ part-within)
-
-  part-is : take r out′ ≡ bs
-  unfolding onto
-  part-is = rw (wrote, says) (take-at bs (drop (length bs) out) (length bs) refl)
-
--- what was read, and whether there is more, as the code has it
-module _ (read : List ℕ) (more : Bool) (out : List ℕ) (r : ℕ) (out′ : List ℕ) where
-  module _ (p : Put out 0 inputLine r out′) (room : 6 ≤ length out) where
-    at-start : (r ≡ length inputLine) × (out′ ≡ onto inputLine out)
-    at-start = put-onto out inputLine r out′ p
-
-    enough : length inputLine ≤ length out
-    enough = omega (arith, input-long)
-
-    pub input-within : r ≤ length out′
-    input-within = part-within out inputLine r out′ (at-start .0) (at-start .1) enough
-
-    pub input-part : r ≡ length (take r out′)
-    input-part = part-long out inputLine r out′ (at-start .0) (at-start .1) enough
-
-    pub input-handed : more ≡ true → take r out′ ≡ handed read more
-    unfolding handed
-    input-handed e = rw e (part-is out inputLine r out′ (at-start .0) (at-start .1) enough)
-
-  module _ (f : Renders read out r out′) where
-    pub within : r ≤ length out′
-    within = part-within out (rendered read) r out′ (f .says) (f .wrote) (f .whole)
-
-    pub part : r ≡ length (take r out′)
-    part = part-long out (rendered read) r out′ (f .says) (f .wrote) (f .whole)
-
-    pub render-handed : more ≡ false → take r out′ ≡ handed read more
-    unfolding handed
-    render-handed e = rw e (part-is out (rendered read) r out′ (f .says) (f .wrote) (f .whole))

@@ -14,7 +14,7 @@ use Rattle.value.specs.declared.Mode.{Mode}
 use Rattle.decode.specs.Mapping.{Out, decoded, answer, Decodes}
 use Rattle.decode.specs.declared.Decoded.{Decoded}
 use Rattle.lines.specs.Lines.{tokenLines, countLine, endLine}
-use Rattle.lines.specs.Most.{PutMost}
+use Rattle.lines.specs.Parts.{PutMost}
 use Rattle.dump.specs.Rendered.{report}
 use Rattle.dump.proofs.Room.{written-fit, same-room}
 

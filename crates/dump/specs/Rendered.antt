@@ -1,6 +1,5 @@
 -- Document 01, "The program dumpmap": what is printed for an input. Assumes nothing.
 use mathlib.Core.Path.{_≡_}
-use mathlib.Core.Bool.{Bool}
 use mathlib.Core.List.{List, _++_}
 use Prim.Native.Nat.{ℕ, _≤_}
 use lib.Dec.{ltb}
@@ -31,7 +30,3 @@ pub record Renders (input out : List ℕ) (r : ℕ) (out′ : List ℕ) : Type 0
   pub says : r ≡ length (rendered input)
   pub wrote : out′ ≡ onto (rendered input) out
   pub whole : length (rendered input) ≤ length out
-
--- what is handed to standard output for an input of which so much was read: where there is more, it is longer than what is taken
-unfoldable pub handed : List ℕ → Bool → List ℕ
-handed read more = pick more inputLine (rendered read)

@@ -8,8 +8,8 @@ ghost use lib.ListN.{length};
 ghost use Rattle.list.specs.Put.{Put};
 ghost use Rattle.value.specs.declared.Mode.{Mode};
 ghost use Rattle.decode.specs.Mapping.{decoded};
-ghost use Rattle.lines.specs.Most.{PutMost};
-ghost use Rattle.dump.specs.Rendered.{report, rendered, Renders, handed};
+ghost use Rattle.lines.specs.Parts.{PutMost};
+ghost use Rattle.dump.specs.Rendered.{report, rendered, Renders};
 
 // The longest input that is taken.
 const MOST: usize = 16384;
@@ -56,35 +56,31 @@ pub fn render(input: &[u8], out: &mut [u8; ROOM]) -> usize
     render_in(input, out)
 }
 
-// Hands to standard output what is printed for an input, of which so much was read, and says on standard error where that
-// fails: a program has no exit status. What this call does no contract can say; `handed` says which bytes it is given.
-fn hand_over(read: &[u8], more: bool, bytes: &[u8])
-    requires { ⌜ now bytes ≡ handed (now read) more ⌝ }
+// Hands to standard output what is printed for an input. This call is all that no contract can speak of: where it fails, that
+// is said on standard error, since a program has no exit status.
+fn hand_over(input: &[u8], bytes: &[u8])
+    requires { ⌜ now bytes ≡ rendered (now input) ⌝ }
 {
     if !io::write_all(1, bytes) {
         io::write_all(2, b"dumpmap: the output could not be written\n");
     }
 }
 
-// An input of which so much was read, and there is more of it or not.
-fn dump_read(read: &[u8], more: bool) {
-    let mut out = [0u8; ROOM];
-    if more {
-        let n = lines::put_input(&mut out, 0);
-        hand_over(read, more, &out[..n]);
-    } else {
-        let n = render(read, &mut out);
-        hand_over(read, more, &out[..n]);
-    }
-}
-
 // A whole input: its first line and its text.
 pub fn dump(input: &[u8]) {
-    dump_read(input, false);
+    let mut out = [0u8; ROOM];
+    let n = render(input, &mut out);
+    hand_over(input, &out[..n]);
+}
+
+// A longer input than is taken: the same is printed for each.
+fn dump_longer() {
+    let input = [0u8; MOST + 1];
+    dump(&input);
 }
 
 // Whether standard input has another byte.
-fn has_more() -> bool {
+fn more() -> bool {
     let mut one = [0u8; 1];
     io::read_full(0, &mut one) != 0
 }
@@ -93,6 +89,9 @@ fn has_more() -> bool {
 pub fn dump_stdin() {
     let mut input = [0u8; MOST];
     let n = io::read_full(0, &mut input);
-    let more = has_more();
-    dump_read(&input[..n], more);
+    if more() {
+        dump_longer();
+        return;
+    }
+    dump(&input[..n]);
 }

@@ -12,7 +12,7 @@ use Rattle.code.specs.declared.Code.{Code}
 use Rattle.decimal.specs.Decimal.{figuresOf}
 use Rattle.decimal.proofs.Figures.{twenty}
 use Rattle.lines.specs.Lines.{line, countLine, endLine}
-use Rattle.lines.specs.Most.{PutMost}
+use Rattle.lines.specs.Parts.{PutMost}
 use Rattle.lines.proofs.Words.{word-fits, word-put, last-fits, last-put}
 
 two : (w a : List ℕ) → length w ≤ 6 → length a ≤ 20 → length (line (w ∷ a ∷ [])) ≤ 28

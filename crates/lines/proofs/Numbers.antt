@@ -1,7 +1,7 @@
 -- A number or an id, and the byte after it. Assumes nothing.
 use mathlib.Core.Path.{_≡_, refl, sym, _∙_, ap}
 use mathlib.Core.Bool.{true, false}
-use mathlib.Core.List.{List, [], _∷_, _++_}
+use mathlib.Core.List.{List, [], _∷_, _++_, append-nil}
 use Prim.Native.Nat.{ℕ, _+_, _^_, _≤_, _<_}
 use native.Mathlib.Omega.{arith}
 use lib.ListN.{length, set, length-append}
@@ -14,6 +14,7 @@ use Rattle.token.specs.Table.{isNone, noId}
 use Rattle.decimal.specs.Decimal.{figuresOf}
 use Rattle.decimal.proofs.Figures.{ten}
 use Rattle.lines.specs.Lines.{idText}
+use Rattle.lines.specs.Parts.{spaced}
 
 module _ (out : List ℕ) (at n b : ℕ) (room : at + length (figuresOf n ++ (b ∷ [])) ≤ length out) where
   begun : Due out at (figuresOf n ++ (b ∷ [])) (figuresOf n ++ (b ∷ [])) at out
@@ -34,6 +35,27 @@ module _ (out : List ℕ) (at n b : ℕ) (room : at + length (figuresOf n ++ (b 
 
     pub number-put : Put out at (figuresOf n ++ (b ∷ [])) (i + 1) (set mid i b)
     number-put = due-none out at (figuresOf n ++ (b ∷ [])) [] (i + 1) (set mid i b) (due-byte out at (figuresOf n ++ (b ∷ [])) b [] i mid due) refl
+
+-- ---- a position
+
+module _ (out : List ℕ) (at line col : ℕ) (room : at + length (spaced line ++ spaced col) ≤ length out) where
+  start : Due out at (spaced line ++ spaced col) (spaced line ++ spaced col) at out
+  start = due-all out at (spaced line ++ spaced col) room
+
+  pub line-fits : at + length (spaced line) ≤ length out
+  line-fits = due-fits out at (spaced line ++ spaced col) (spaced line) (spaced col) at out start
+
+  module _ (i : ℕ) (mid : List ℕ) (p : Put out at (spaced line) i mid) where
+    rest : Due out at (spaced line ++ spaced col) (spaced col ++ []) i mid
+    rest =
+        due-is out at (spaced line ++ spaced col) (spaced col) (spaced col ++ []) i mid (sym (append-nil (spaced col)))
+        (due-put out at (spaced line ++ spaced col) (spaced line) (spaced col) at out start i mid p)
+
+    pub col-fits : i + length (spaced col) ≤ length mid
+    col-fits = due-fits out at (spaced line ++ spaced col) (spaced col) [] i mid rest
+
+    pub position-put : (r : ℕ) (out′ : List ℕ) → Put mid i (spaced col) r out′ → Put out at (spaced line ++ spaced col) r out′
+    position-put r out′ q = due-none out at (spaced line ++ spaced col) [] r out′ (due-put out at (spaced line ++ spaced col) (spaced col) [] i mid rest r out′ q) refl
 
 -- ---- an id
 

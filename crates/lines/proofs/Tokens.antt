@@ -8,16 +8,16 @@ use lib.ListN.{length, length-append}
 use mir.Syntax.{w32}
 use mir.Val.{Fits}
 use Rattle.list.specs.Put.{Put}
-use Rattle.vlq_write.proofs.Put.{Due, put-nothing, put-then, put-long, put-is, due-all, due-same}
+use Rattle.vlq_write.proofs.Put.{Due, put-nothing, put-then, put-long, put-is, due-all}
 use Rattle.token.specs.Table.{places, tokenAt, tokensFrom}
 use Rattle.token.specs.declared.Token.{Token}
 use Rattle.token.proofs.Laws.{tokens-add}
 use Rattle.decimal.specs.Decimal.{figuresOf}
 use Rattle.decimal.proofs.Figures.{ten}
 use Rattle.lines.specs.Lines.{line, idText, tokenLine, tokenLines}
-use Rattle.lines.specs.Most.{PutMost}
+use Rattle.lines.specs.Parts.{spaced, PutMost}
 use Rattle.lines.proofs.Numbers.{id-ten}
-use Rattle.lines.proofs.Words.{word-fits, word-put, last-fits, last-put}
+use Rattle.lines.proofs.Words.{word-fits, word-put, both-fit, both-put, last-fits, last-put}
 
 -- ---- one line
 
@@ -62,46 +62,32 @@ module _ (out : List ℕ) (at : ℕ) (t : Token) (k : Known t) (room : at + 66 �
   unfolding tokenLine
   due₁ = due-all out at (tokenLine t) (omega (arith, token-most t k))
 
-  pub fits₁ : at + length (a ++ (32 ∷ [])) ≤ length out
-  fits₁ = word-fits out at (tokenLine t) a b (c ∷ d ∷ e ∷ f ∷ []) at out due₁
+  pub dst-fits : at + length (spaced (t .«dst_line») ++ spaced (t .«dst_col»)) ≤ length out
+  dst-fits = both-fit out at (tokenLine t) a b c (d ∷ e ∷ f ∷ []) at out due₁
 
-  module _ (i₁ : ℕ) (out₁ : List ℕ) (p₁ : Put out at (a ++ (32 ∷ [])) i₁ out₁) where
-    due₂ : Due out at (tokenLine t) (line (b ∷ c ∷ d ∷ e ∷ f ∷ [])) i₁ out₁
-    due₂ = word-put out at (tokenLine t) a b (c ∷ d ∷ e ∷ f ∷ []) at out due₁ i₁ out₁ p₁
+  module _ (i₁ : ℕ) (out₁ : List ℕ) (p₁ : Put out at (spaced (t .«dst_line») ++ spaced (t .«dst_col»)) i₁ out₁) where
+    due₂ : Due out at (tokenLine t) (line (c ∷ d ∷ e ∷ f ∷ [])) i₁ out₁
+    due₂ = both-put out at (tokenLine t) a b c (d ∷ e ∷ f ∷ []) at out due₁ i₁ out₁ p₁
 
-    pub fits₂ : i₁ + length (b ++ (32 ∷ [])) ≤ length out₁
-    fits₂ = word-fits out at (tokenLine t) b c (d ∷ e ∷ f ∷ []) i₁ out₁ due₂
+    pub src-fits : i₁ + length (spaced (t .«src_line») ++ spaced (t .«src_col»)) ≤ length out₁
+    src-fits = both-fit out at (tokenLine t) c d e (f ∷ []) i₁ out₁ due₂
 
-    module _ (i₂ : ℕ) (out₂ : List ℕ) (p₂ : Put out₁ i₁ (b ++ (32 ∷ [])) i₂ out₂) where
-      due₃ : Due out at (tokenLine t) (line (c ∷ d ∷ e ∷ f ∷ [])) i₂ out₂
-      due₃ = word-put out at (tokenLine t) b c (d ∷ e ∷ f ∷ []) i₁ out₁ due₂ i₂ out₂ p₂
+    module _ (i₂ : ℕ) (out₂ : List ℕ) (p₂ : Put out₁ i₁ (spaced (t .«src_line») ++ spaced (t .«src_col»)) i₂ out₂) where
+      due₃ : Due out at (tokenLine t) (line (e ∷ f ∷ [])) i₂ out₂
+      due₃ = both-put out at (tokenLine t) c d e (f ∷ []) i₁ out₁ due₂ i₂ out₂ p₂
 
-      pub fits₃ : i₂ + length (c ++ (32 ∷ [])) ≤ length out₂
-      fits₃ = word-fits out at (tokenLine t) c d (e ∷ f ∷ []) i₂ out₂ due₃
+      pub source-fits : i₂ + length (e ++ (32 ∷ [])) ≤ length out₂
+      source-fits = word-fits out at (tokenLine t) e f [] i₂ out₂ due₃
 
-      module _ (i₃ : ℕ) (out₃ : List ℕ) (p₃ : Put out₂ i₂ (c ++ (32 ∷ [])) i₃ out₃) where
-        due₄ : Due out at (tokenLine t) (line (d ∷ e ∷ f ∷ [])) i₃ out₃
-        due₄ = word-put out at (tokenLine t) c d (e ∷ f ∷ []) i₂ out₂ due₃ i₃ out₃ p₃
+      module _ (i₃ : ℕ) (out₃ : List ℕ) (p₃ : Put out₂ i₂ (e ++ (32 ∷ [])) i₃ out₃) where
+        due₄ : Due out at (tokenLine t) (line (f ∷ [])) i₃ out₃
+        due₄ = word-put out at (tokenLine t) e f [] i₂ out₂ due₃ i₃ out₃ p₃
 
-        pub fits₄ : i₃ + length (d ++ (32 ∷ [])) ≤ length out₃
-        fits₄ = word-fits out at (tokenLine t) d e (f ∷ []) i₃ out₃ due₄
+        pub name-fits : i₃ + length (f ++ (10 ∷ [])) ≤ length out₃
+        name-fits = last-fits out at (tokenLine t) f i₃ out₃ due₄
 
-        module _ (i₄ : ℕ) (out₄ : List ℕ) (p₄ : Put out₃ i₃ (d ++ (32 ∷ [])) i₄ out₄) where
-          due₅ : Due out at (tokenLine t) (line (e ∷ f ∷ [])) i₄ out₄
-          due₅ = word-put out at (tokenLine t) d e (f ∷ []) i₃ out₃ due₄ i₄ out₄ p₄
-
-          pub fits₅ : i₄ + length (e ++ (32 ∷ [])) ≤ length out₄
-          fits₅ = word-fits out at (tokenLine t) e f [] i₄ out₄ due₅
-
-          module _ (i₅ : ℕ) (out₅ : List ℕ) (p₅ : Put out₄ i₄ (e ++ (32 ∷ [])) i₅ out₅) where
-            due₆ : Due out at (tokenLine t) (line (f ∷ [])) i₅ out₅
-            due₆ = word-put out at (tokenLine t) e f [] i₄ out₄ due₅ i₅ out₅ p₅
-
-            pub fits₆ : i₅ + length (f ++ (10 ∷ [])) ≤ length out₅
-            fits₆ = last-fits out at (tokenLine t) f i₅ out₅ due₆
-
-            pub token-put : (r : ℕ) (out′ : List ℕ) → Put out₅ i₅ (f ++ (10 ∷ [])) r out′ → PutMost 66 out at (tokenLine t) r out′
-            token-put r out′ p = record { put = last-put out at (tokenLine t) f i₅ out₅ due₆ r out′ p; few = token-most t k }
+        pub token-put : (r : ℕ) (out′ : List ℕ) → Put out₃ i₃ (f ++ (10 ∷ [])) r out′ → PutMost 66 out at (tokenLine t) r out′
+        token-put r out′ p = record { put = last-put out at (tokenLine t) f i₃ out₃ due₄ r out′ p; few = token-most t k }
 
 -- ---- a line for each token
 

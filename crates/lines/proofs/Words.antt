@@ -65,6 +65,19 @@ module _ (out₀ : List ℕ) (at : ℕ) (whole : List ℕ) where
     pub word-put : (j : ℕ) (out′ : List ℕ) → Put out i (w ++ (32 ∷ [])) j out′ → Due out₀ at whole (line (v ∷ ws)) j out′
     word-put j out′ p = due-put out₀ at whole (w ++ (32 ∷ [])) (line (v ∷ ws)) i out next j out′ p
 
+  -- two words that others follow
+  module _ (u w v : List ℕ) (ws : List (List ℕ)) (i : ℕ) (out : List ℕ) (d : Due out₀ at whole (line (u ∷ (w ∷ (v ∷ ws)))) i out) where
+    both : Due out₀ at whole (((u ++ (32 ∷ [])) ++ (w ++ (32 ∷ []))) ++ line (v ∷ ws)) i out
+    both =
+        due-is out₀ at whole (line (u ∷ (w ∷ (v ∷ ws)))) (((u ++ (32 ∷ [])) ++ (w ++ (32 ∷ []))) ++ line (v ∷ ws)) i out
+        (line-next u w (v ∷ ws) ∙ ap (λ (l : List ℕ). (u ++ (32 ∷ [])) ++ l) (line-next w v ws) ∙ sym (append-assoc (u ++ (32 ∷ [])) (w ++ (32 ∷ [])) (line (v ∷ ws)))) d
+
+    pub both-fit : i + length ((u ++ (32 ∷ [])) ++ (w ++ (32 ∷ []))) ≤ length out
+    both-fit = due-fits out₀ at whole ((u ++ (32 ∷ [])) ++ (w ++ (32 ∷ []))) (line (v ∷ ws)) i out both
+
+    pub both-put : (j : ℕ) (out′ : List ℕ) → Put out i ((u ++ (32 ∷ [])) ++ (w ++ (32 ∷ []))) j out′ → Due out₀ at whole (line (v ∷ ws)) j out′
+    both-put j out′ p = due-put out₀ at whole ((u ++ (32 ∷ [])) ++ (w ++ (32 ∷ []))) (line (v ∷ ws)) i out both j out′ p
+
   -- the last word
   module _ (w : List ℕ) (i : ℕ) (out : List ℕ) (d : Due out₀ at whole (line (w ∷ [])) i out) where
     last : Due out₀ at whole ((w ++ (10 ∷ [])) ++ []) i out

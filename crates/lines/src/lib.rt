@@ -8,7 +8,7 @@ ghost use Rattle.list.specs.Put.{Put};
 ghost use Rattle.token.specs.Table.{places, tokensFrom};
 ghost use Rattle.decimal.specs.Decimal.{figuresOf};
 ghost use Rattle.lines.specs.Lines.{idText, tokenLine, tokenLines, countLine, endLine, inputLine};
-ghost use Rattle.lines.specs.Most.{PutMost};
+ghost use Rattle.lines.specs.Parts.{spaced, PutMost};
 
 // The bytes of a word.
 fn put_word(out: &mut [u8], at: usize, word: &[u8]) -> usize
@@ -46,16 +46,23 @@ fn put_id(out: &mut [u8], at: usize, id: u32, after: u8) -> usize
     put_number(out, at, id as u64, after)
 }
 
+// A line and a column, each with the space after it.
+fn put_position(out: &mut [u8], at: usize, line: u64, col: u64) -> usize
+    requires { ⌜ at + length (spaced line ++ spaced col) ≤ length (now out) ⌝ }
+    ensures { λ r. ⌜ Put (now (out .entry)) at (spaced line ++ spaced col) r (now (out .exit)) ⌝ }
+{
+    let after_line = put_number(out, at, line, b' ');
+    put_number(out, after_line, col, b' ')
+}
+
 // A token's line, of six numbers: 66 bytes at the most.
 fn put_token(out: &mut [u8], at: usize, t: Token) -> usize
     requires { ⌜ at + 66 ≤ length (now out) ⌝ }
     ensures { λ r. ⌜ PutMost 66 (now (out .entry)) at (tokenLine t) r (now (out .exit)) ⌝ }
 {
-    let after_line = put_number(out, at, t.dst_line as u64, b' ');
-    let after_col = put_number(out, after_line, t.dst_col as u64, b' ');
-    let after_src_line = put_number(out, after_col, t.src_line as u64, b' ');
-    let after_src_col = put_number(out, after_src_line, t.src_col as u64, b' ');
-    let after_source = put_id(out, after_src_col, t.source_id, b' ');
+    let after_dst = put_position(out, at, t.dst_line as u64, t.dst_col as u64);
+    let after_src = put_position(out, after_dst, t.src_line as u64, t.src_col as u64);
+    let after_source = put_id(out, after_src, t.source_id, b' ');
     put_id(out, after_source, t.name_id, b'\n')
 }
 

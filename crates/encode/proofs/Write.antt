@@ -5,7 +5,7 @@ use mathlib.Core.Option.{none, some}
 use Prim.Native.Nat.{ℕ, _+_, _≤_, _<_}
 use native.Mathlib.Omega.{arith}
 use native.Mathlib.Decide.{decLe}
-use native.Mathlib.Nat.{zero-add, lt-of-not-le}
+use native.Mathlib.Nat.{lt-of-not-le}
 use lib.Dec.{eqb}
 use lib.ListN.{length}
 use Rattle.list.specs.Memory.{onto, blit}

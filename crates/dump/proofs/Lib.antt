@@ -1,3 +1,3 @@
-pub mod Count
-pub mod Line
 pub mod Room
+pub mod Report
+pub mod Printed

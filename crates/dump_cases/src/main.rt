@@ -1,18 +1,19 @@
 // Dumps many inputs, each given as a line with its number and its length and then so many bytes.
-use dump::FirstLine;
+use first_line::FirstLine;
 ghost use Prim.Native.Nat.{_≤_};
 ghost use lib.ListN.{length};
 
 fn print_case(number: u32) {
     io::write_all(1, b"case ");
-    dump::print_number(number as u64, b"\n");
+    io::print_decimal(1, number as u64);
+    io::write_all(1, b"\n");
 }
 
 // Dumps the first case, and answers how many bytes it takes; 0 where there is none.
 fn one_case(cases: &[u8]) -> usize
     ensures { λ r. ⌜ r ≤ length (now (cases .entry)) ⌝ }
 {
-    let line = dump::first_line(cases);
+    let line = first_line::first_line(cases);
     match line {
         FirstLine::Counts(number, size, begin) => {
             let end = begin + size as usize;

@@ -2,23 +2,29 @@
 // were written and the offset, and then the tokens.
 use decode::Decoded;
 ghost use Prim.Native.Nat.{_≤_};
-ghost use lib.ListN.{length};
-ghost use Rattle.token.specs.Table.{places};
 
 // No answer has more tokens.
 const PLACES: usize = 2;
 
+// A number and what follows it.
+fn print_number(n: u64, after: &[u8]) {
+    io::print_decimal(1, n);
+    io::write_all(1, after);
+}
+
 // What a decode in a mode gave.
-fn print_decoded(mode: &[u8], d: Decoded, table: &[u32])
-    requires { ⌜ d .tokens ≤ places (length (now table)) ⌝ }
+fn print_decoded(mode: &[u8], d: Decoded, table: &[u32; PLACES * token::WIDTH])
+    requires { ⌜ d .tokens ≤ 2 ⌝ }
 {
     let code = d.code;
     io::write_all(1, mode);
-    dump::print_number(code::code_of(code), b" ");
-    dump::print_number(code::number_of(code), b" ");
-    dump::print_number(d.tokens as u64, b" ");
-    dump::print_number(d.offset as u64, b"\n");
-    dump::print_tokens(table, d.tokens);
+    print_number(code::code_of(code), b" ");
+    print_number(code::number_of(code), b" ");
+    print_number(d.tokens as u64, b" ");
+    print_number(d.offset as u64, b"\n");
+    let mut out = [0u8; PLACES * 66];
+    let n = lines::put_tokens(table, d.tokens, &mut out, 0);
+    io::write_all(1, &out[..n]);
 }
 
 fn lenient(text: &[u8], sources: u32, names: u32) {
@@ -38,8 +44,8 @@ fn row(text: &[u8], sources: u32, names: u32) {
     io::write_all(1, b"\"");
     io::write_all(1, text);
     io::write_all(1, b"\" ");
-    dump::print_number(sources as u64, b" ");
-    dump::print_number(names as u64, b"\n");
+    print_number(sources as u64, b" ");
+    print_number(names as u64, b"\n");
     lenient(text, sources, names);
     checked(text, sources, names);
 }

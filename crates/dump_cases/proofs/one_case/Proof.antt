@@ -1,7 +1,7 @@
--- `dump_cases::one_case` meets its contract, by the laws of `dump`. Assumes nothing.
+-- `dump_cases::one_case` meets its contract, by the laws of `first_line`. Assumes nothing.
 use native.Mathlib.Omega.{arith}
 use borrow.Author.Needs.{needs}
-use Rattle.dump.proofs.Line.{begins-within}
+use Rattle.first_line.proofs.Line.{begins-within}
 use Rattle.dump_cases.proofs.one_case.Statement.{statement}
 use Rattle.dump_cases.proofs.one_case.Tie as tie
 

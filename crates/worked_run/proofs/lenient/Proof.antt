@@ -1,6 +1,7 @@
 -- `worked_run::lenient` meets its contract, by the laws of `dump`. Assumes nothing.
+use native.Mathlib.Omega.{arith}
 use borrow.Author.Needs.{needs}
-use Rattle.dump.proofs.Room.{written-fit}
+use Rattle.dump.proofs.Room.{same-room, written-fit}
 use Rattle.worked_run.proofs.lenient.Statement.{statement}
 use Rattle.worked_run.proofs.lenient.Tie as tie
 
@@ -13,11 +14,8 @@ decode-lenient-requires c κs = search needs
 slice-aggregate-print-decoded : tie.Need-slice-aggregate-print-decoded
 slice-aggregate-print-decoded c = search needs
 
-slice-aggregate-print-decoded-2 : tie.Need-slice-aggregate-print-decoded-2
-slice-aggregate-print-decoded-2 c = search needs
-
 print-decoded-requires : tie.Need-print-decoded-requires
-print-decoded-requires c κs = written-fit _ _ _ _ _ _ _ (c .before .before .before .decode-lenient .ensures)
+print-decoded-requires c κs = omega (arith, same-room _ _ _ _ _ _ _ (c .before .before .before .decode-lenient .ensures), written-fit _ _ _ _ _ _ _ (c .before .before .before .decode-lenient .ensures))
 
 returns : tie.Need-returns
 returns c = search needs
@@ -29,6 +27,5 @@ lenient-spec =
     slice-aggregate-decode-lenient
     decode-lenient-requires
     slice-aggregate-print-decoded
-    slice-aggregate-print-decoded-2
     print-decoded-requires
     returns)

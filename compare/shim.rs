@@ -28,6 +28,8 @@ unsafe extern "C" {
     fn raw_pgk_translate(r: *mut Words<2>, table: &Fat, line: u32, source: u32, name: u32);
     fn raw_pgk_translate_tokens(r: *mut Words<2>, table: &Fat, line: u32, source: u32, name: u32);
     fn raw_pgk_lookup(r: *mut Words<2>, table: &Fat, line: u32, col: u32);
+    fn raw_pgk_table_size(r: *mut Words<1>, text: &Fat);
+    fn raw_pgk_meets_premises(r: *mut Words<1>, table: &Fat, sources: u32, names: u32);
     fn raw_pgk_encode(r: *mut Words<7>, table: &Fat, chunk: &Chunk, out: &Fat);
     fn raw_pgk_compose(
         r: *mut Words<3>,
@@ -83,6 +85,16 @@ pub unsafe extern "C" fn pgk_translate_tokens(table: *const u8, n: usize, line: 
 #[unsafe(no_mangle)]
 pub unsafe extern "C" fn pgk_lookup(table: *const u8, n: usize, line: u32, col: u32) -> Words<2> {
     answered(|r| unsafe { raw_pgk_lookup(r, &fat((table, n)), line, col) })
+}
+
+#[unsafe(no_mangle)]
+pub unsafe extern "C" fn pgk_table_size(text: *const u8, n: usize) -> u64 {
+    answered(|r| unsafe { raw_pgk_table_size(r, &fat((text, n))) }).0[0]
+}
+
+#[unsafe(no_mangle)]
+pub unsafe extern "C" fn pgk_meets_premises(table: *const u8, n: usize, sources: u32, names: u32) -> u64 {
+    answered(|r| unsafe { raw_pgk_meets_premises(r, &fat((table, n)), sources, names) }).0[0]
 }
 
 #[unsafe(no_mangle)]

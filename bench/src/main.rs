@@ -9,6 +9,7 @@ mod timing;
 use std::borrow::Cow;
 use std::hint::black_box;
 use std::path::{Path, PathBuf};
+use std::process::ExitCode;
 
 use memory::Memory;
 use oxc_sourcemap::{SourceMap, Token, TokenChunk, reach};
@@ -391,7 +392,17 @@ fn count(part: &str, t: &Text) -> Result<(), String> {
     Ok(())
 }
 
-fn main() -> Result<(), String> {
+fn main() -> ExitCode {
+    match run() {
+        Ok(()) => ExitCode::SUCCESS,
+        Err(why) => {
+            eprintln!("bench: {why}");
+            ExitCode::from(2)
+        }
+    }
+}
+
+fn run() -> Result<(), String> {
     let mut corpus = PathBuf::from("../shared/corpus");
     let mut seconds = 2.0;
     let mut words = Vec::new();

@@ -4,90 +4,83 @@
  *     stop MAP LINE COLUMN
  *
  * MAP has the counts of sources and names on its first line, and the mappings after it, as samples/lysis.txt.
- * Lines and columns count from 0. Ends with 0: a step was printed; 1: there is none; 2: the map or the call was refused. */
+ * Lines and columns count from 0, those that are printed too, and columns count UTF-16 units.
+ * Ends with 0: a step was printed; 1: there is none; 2: the map or the call was refused. */
 #include <stdio.h>
 #include <stdlib.h>
 #include <string.h>
 #include "peghayrick.h"
 
-enum { TEXT = 65536, TOKENS = 4096 };
-
-static uint8_t text[TEXT];
-static uint32_t table[6 * TOKENS];
-
-/* What is wrong with the map, for the operator. */
-static const char *why(uint64_t code) {
-    switch (code) {
-    case PGK_VLQ_LEFTOVER: return "a value is cut short";
-    case PGK_VLQ_OVERFLOW: return "a value is too long";
-    case PGK_BAD_SEGMENT_SIZE: return "a segment has a wrong number of fields, or a position below 0";
-    case PGK_BAD_SOURCE_REFERENCE: return "a segment names a source that the map does not list";
-    case PGK_BAD_NAME_REFERENCE: return "a segment refers to a name that the map does not list";
-    case PGK_WIDE_VALUE: return "a number does not fit into 32 bits";
-    default: return "an unknown refusal";
+/* A decimal number of 32 bits, as long as s is nothing else: digits and then `end`. Where it ends, or NULL. */
+static const char *number(const char *s, char end, uint32_t *n) {
+    uint64_t v = 0;
+    if (*s < '0' || *s > '9') return NULL;
+    for (; *s >= '0' && *s <= '9'; s++) {
+        v = 10 * v + (uint64_t)(*s - '0');
+        if (v > 4294967295u) return NULL;
     }
-}
-
-/* A decimal number of 32 bits; 0 if s is none. */
-static int number(const char *s, uint32_t *n) {
-    char *rest;
-    if (*s < '0' || *s > '9') return 0;
-    unsigned long long v = strtoull(s, &rest, 10);
-    if (*rest != 0 || v > 4294967295u) return 0;
     *n = (uint32_t)v;
-    return 1;
+    return *s == end ? s + 1 : NULL;
 }
 
-int main(int argc, char **argv) {
-    uint32_t line, col, sources, names;
-    if (argc != 4 || !number(argv[2], &line) || !number(argv[3], &col)) {
-        fprintf(stderr, "usage: stop MAP LINE COLUMN\n");
-        return 2;
+/* A whole file, with a 0 behind it; NULL where it cannot be read. */
+static char *whole(const char *path, size_t *len) {
+    FILE *f = fopen(path, "rb");
+    char *bytes = NULL;
+    size_t room = 4096, read = 0, got = 1;
+    if (f == NULL) return NULL;
+    while (got != 0) {
+        char *more = realloc(bytes, room *= 2);
+        if (more == NULL) break;
+        bytes = more;
+        got = fread(bytes + read, 1, room - read - 1, f);
+        read += got;
     }
-    FILE *f = fopen(argv[1], "rb");
-    if (f == NULL) {
-        fprintf(stderr, "the map cannot be opened: check the path\n");
-        return 2;
+    if (got != 0 || ferror(f)) {
+        free(bytes);
+        bytes = NULL;
+    } else {
+        bytes[read] = 0;
     }
-    char first[64], *space, *newline;
-    if (fgets(first, sizeof first, f) == NULL || (space = strchr(first, ' ')) == NULL || (newline = strchr(space, '\n')) == NULL
-        || (*space = 0, *newline = 0, !number(first, &sources) || !number(space + 1, &names))) {
-        fclose(f);
+    fclose(f);
+    *len = read;
+    return bytes;
+}
+
+/* Prints the step of the map, which has len bytes. */
+static int step(const char *map, size_t len, uint32_t line, uint32_t col) {
+    uint32_t sources, names;
+    const char *text = number(map, ' ', &sources);
+    if (text == NULL || (text = number(text, '\n', &names)) == NULL) {
         fprintf(stderr, "the map has no counts on its first line: export it again\n");
         return 2;
     }
-    size_t len = fread(text, 1, TEXT, f);
-    int longer = fgetc(f) != EOF;
-    fclose(f);
-    if (longer) {
-        fprintf(stderr, "the map is longer than %d bytes: raise TEXT\n", TEXT);
-        return 2;
-    }
+    len -= (size_t)(text - map);
 
-    pgk_decoded d = pgk_decode_checked(text, len, sources, names, table, 6 * TOKENS);
-    if (d.code == PGK_TABLE_FULL) {
-        fprintf(stderr, "the map has more than %d tokens: raise TOKENS\n", TOKENS);
+    size_t size = pgk_table_size((const uint8_t *)text, len);
+    uint32_t *table = calloc(size != 0 ? size : 1, sizeof *table);   /* never null, also where nothing is needed */
+    if (table == NULL) {
+        fprintf(stderr, "there is no memory for the map: load a smaller one\n");
         return 2;
     }
+    pgk_decoded d = pgk_decode_checked((const uint8_t *)text, len, sources, names, table, size);
     if (d.code != PGK_DONE) {
-        fprintf(stderr, "the map is damaged at byte %llu: %s (code %llu, number %llu). "
-            "Do not resume by this map; build the bundle and its map again and load both.\n",
-            (unsigned long long)d.offset, why(d.code), (unsigned long long)d.code, (unsigned long long)d.number);
+        fprintf(stderr, "the map is refused at byte %llu: %s (code %llu, number %llu)\n",
+            (unsigned long long)d.offset, pgk_words(d.code), (unsigned long long)d.code, (unsigned long long)d.number);
+        free(table);
         return 2;
     }
 
-    pgk_answer a = pgk_lookup(table, 6 * d.tokens, line, col);
+    pgk_answer a = pgk_lookup(table, PGK_WIDTH * d.tokens, line, col);
     if (a.code != PGK_DONE) {
-        fprintf(stderr, "the table is bad: this program is wrong\n");
+        fprintf(stderr, "the lookup is refused: %s (code %llu)\n", pgk_words(a.code), (unsigned long long)a.code);
+        free(table);
         return 2;
     }
-    if (a.number == PGK_NONE) {
-        printf("stop %u:%u has no step in the source\n", line, col);
-        return 1;
-    }
-    pgk_token t;
-    memcpy(&t, table + 6 * a.number, sizeof t);
-    if (t.source_id == PGK_NONE) {
+    pgk_token t = { 0, 0, 0, 0, PGK_NONE, PGK_NONE };
+    if (a.number != PGK_NONE) memcpy(&t, table + PGK_WIDTH * a.number, sizeof t);
+    free(table);
+    if (t.source_id == PGK_NONE) {   /* its source line and column say nothing */
         printf("stop %u:%u has no step in the source\n", line, col);
         return 1;
     }
@@ -95,4 +88,25 @@ int main(int argc, char **argv) {
     if (t.name_id != PGK_NONE) printf(", name %u", t.name_id);
     printf("\n");
     return 0;
+}
+
+int main(int argc, char **argv) {
+    uint32_t line, col;
+    if (argc != 4 || number(argv[2], 0, &line) == NULL || number(argv[3], 0, &col) == NULL) {
+        fprintf(stderr, "usage: stop MAP LINE COLUMN\n");
+        return 2;
+    }
+    if (pgk_version() != PGK_VERSION) {
+        fprintf(stderr, "libpeghayrick.a is not of version " PGK_VERSION_TEXT ": build this program again\n");
+        return 2;
+    }
+    size_t len;
+    char *map = whole(argv[1], &len);
+    if (map == NULL) {
+        fprintf(stderr, "the map cannot be opened: check the path\n");
+        return 2;
+    }
+    int status = step(map, len, line, col);
+    free(map);
+    return status;
 }

@@ -6,12 +6,11 @@
 //! ```
 //!
 //! MAP has the counts of sources and names on its first line, and the mappings after it, as samples/lysis.txt.
-//! Lines and columns count from 0. Ends with 0: a step was printed; 1: there is none; 2: the map or the call was refused.
+//! Lines and columns count from 0, those that are printed too, and columns count UTF-16 units.
+//! Ends with 0: a step was printed; 1: there is none; 2: the map or the call was refused.
 
-use peghayrick::{decode_checked, lookup_token, written, Token};
+use peghayrick::{decode_checked, lookup_token, table_size, version, written, Token, VERSION};
 use std::process::ExitCode;
-
-const TOKENS: usize = 4096;
 
 /// A decimal number of 32 bits: digits and nothing else.
 fn number(s: &str) -> Option<u32> {
@@ -25,12 +24,17 @@ fn parts(map: &[u8]) -> Option<(u32, u32, &[u8])> {
     Some((number(sources)?, number(names)?, &map[end + 1..]))
 }
 
-/// The token at the stop position, if it has a source.
+/// The token at the stop position, if it has a source: without one, its source line and column say nothing.
 fn step(map: &[u8], line: u32, col: u32) -> Result<Option<Token>, String> {
     let (sources, names, mappings) = parts(map).ok_or("the map has no counts on its first line: export it again")?;
-    let mut table = vec![0u32; 6 * TOKENS];
-    let decoded = decode_checked(mappings, sources, names, &mut table).map_err(|refusal| refusal.to_string())?;
-    let token = lookup_token(written(&table, decoded.tokens), line, col).map_err(|refusal| refusal.to_string())?;
+    let mut table = vec![0u32; table_size(mappings)];
+    let decoded = decode_checked(mappings, sources, names, &mut table).map_err(|refusal| {
+        let (at, words, code, number) =
+            (refusal.at().map_or(0, |at| at.offset), refusal.words(), refusal.code(), refusal.number());
+        format!("the map is refused at byte {at}: {words} (code {code}, number {number})")
+    })?;
+    let token = lookup_token(written(&table, decoded.tokens), line, col)
+        .map_err(|refusal| format!("the lookup is refused: {} (code {})", refusal.words(), refusal.code()))?;
     Ok(token.filter(|t| t.get_source_id().is_some()))
 }
 
@@ -44,6 +48,10 @@ fn main() -> ExitCode {
         eprintln!("usage: stop MAP LINE COLUMN");
         return ExitCode::from(2);
     };
+    if version() != VERSION {
+        eprintln!("libpeghayrick.a is not of version {}: build this program again", env!("CARGO_PKG_VERSION"));
+        return ExitCode::from(2);
+    }
     let Ok(map) = std::fs::read(path) else {
         eprintln!("the map cannot be opened: check the path");
         return ExitCode::from(2);

@@ -339,6 +339,154 @@ static void looking(unsigned rounds) {
     check(ok, "lookup in any table, by the rule");
 }
 
+/* How many numbers a table needs, by the rule: the bytes that begin a segment. */
+static size_t needed(const char *text, size_t len) {
+    size_t n = 0;
+    for (size_t i = 0; i < len; i++)
+        n += text[i] != ',' && text[i] != ';' && (i == 0 || text[i - 1] == ',' || text[i - 1] == ';');
+    return PGK_WIDTH * n;
+}
+
+static size_t size_at(place where, const void *text, size_t len, int *ok) {
+    lent a = lend(pens[0], where, text, len, 0);
+    size_t size = pgk_table_size(a.at, len);
+    *ok &= back(a, NULL);
+    return size;
+}
+
+static void sizing(unsigned rounds) {
+    static const struct { const char *text; size_t size; } rows[] = {
+        { "", 0 }, { ";", 0 }, { ",,;;,", 0 }, { "A", 6 }, { "AAEG;C", 12 }, { "AAEG;C;", 12 }, { ",A", 6 }, { "A,;,A", 12 },
+        { "AAAAAAAAAAAAAAAA", 6 }, { "A,A,A,A", 24 }, { "!\x80 \n", 6 }, { "+:-<", 6 },
+    };
+    int ok = 1, by_rule = 1, most = 1, fits = 1, least = 1;
+    unsigned done = 0, refused = 0;
+    for (size_t i = 0; i < sizeof rows / sizeof *rows; i++)
+        for (place w = FIRST; w < PLACES; w++) ok &= size_at(w, rows[i].text, strlen(rows[i].text), &ok) == rows[i].size;
+    check(ok, "table size of worked texts");
+    for (unsigned r = 0; r < rounds; r++) {
+        char text[128];
+        size_t len = below(97), delimiters = 0;
+        uint32_t wild = below(2);
+        for (size_t i = 0; i < len; i++) {
+            uint32_t x = below(10);
+            text[i] = x < 3 ? ',' : x < 4 ? ';' : wild ? (char)any() : "AACE"[below(4)];
+            delimiters += text[i] == ',' || text[i] == ';';
+        }
+        size_t size = needed(text, len);
+        for (place w = FIRST; w < PLACES; w++) by_rule &= size_at(w, text, len, &by_rule) == size;
+        most &= size <= PGK_WIDTH * (delimiters + 1);
+        for (int mode = 0; mode < 3; mode++) {
+            uint32_t table[PGK_WIDTH * 97];
+            pgk_decoded d = decode_at(mode, HEAP, LAST, text, len, 8, 8, table, size, &fits);
+            fits &= d.code != PGK_TABLE_FULL && (d.code != PGK_DONE || PGK_WIDTH * d.tokens == size);
+            if (d.code != PGK_DONE) { refused++; continue; }
+            done++;
+            if (size == 0) continue;
+            d = decode_at(mode, HEAP, LAST, text, len, 8, 8, table, size - 1, &least);
+            least &= d.code == PGK_TABLE_FULL && PGK_WIDTH * d.tokens == size - PGK_WIDTH;
+        }
+    }
+    check(by_rule, "table size, by the rule, in every placement");
+    check(most, "table size: at most a token for each delimiter and one more");
+    check(fits, "a table of that size is never full, and a done decode fills it");
+    check(least, "a table one number smaller is full");
+    check(done > 0 && refused > 0, "table size met texts that are done and texts that are refused");
+}
+
+/* Whether a table surely reads back, by the rule. */
+static uint64_t premised(const uint32_t *k, size_t numbers, uint32_t sources, uint32_t names) {
+    uint32_t line = 0, src_line = 0, src_col = 0;
+    if (numbers % 6 != 0) return 0;
+    for (size_t t = 0; t < numbers / 6; t++, k += 6) {
+        int with = k[4] != none;
+        if (k[0] < line || (with && k[4] >= sources) || (k[5] != none && (k[5] >= names || !with))) return 0;
+        if (!with && (k[2] != src_line || k[3] != src_col)) return 0;
+        line = k[0];
+        if (with) { src_line = k[2]; src_col = k[3]; }
+    }
+    return 1;
+}
+
+static uint64_t premises_at(place where, const uint32_t *table, size_t numbers, uint32_t s, uint32_t n, int *ok) {
+    lent a = lend(pens[0], where, table, 4 * numbers, 0);
+    uint64_t meets = pgk_meets_premises((uint32_t *)a.at, numbers, s, n);
+    *ok &= back(a, NULL);
+    return meets;
+}
+
+static void premises(unsigned rounds) {
+    static const struct { uint32_t token[12]; size_t numbers; uint32_t s, n; uint64_t meets; const char *what; } rows[] = {
+        { { 0 }, 0, 0, 0, 1, "no token" },
+        { { 0, 0, 0, 0, PGK_NONE, PGK_NONE }, 6, 0, 0, 1, "a token without a source at 0, 0" },
+        { { 0, 0, 0, 0, PGK_NONE, PGK_NONE }, 5, 0, 0, 0, "not whole tokens" },
+        { { 9, 7, 5, 3, 0, 0 }, 6, 1, 1, 1, "a source and a name" },
+        { { 9, 7, 5, 3, 0, 0 }, 6, 0, 1, 0, "a source past its count" },
+        { { 9, 7, 5, 3, 0, 0 }, 6, 1, 0, 0, "a name past its count" },
+        { { 0, 0, 0, 0, PGK_NONE, 0 }, 6, 1, 1, 0, "a name without a source" },
+        { { 0, 0, 0, 1, PGK_NONE, PGK_NONE }, 6, 1, 1, 0, "a source column without a source" },
+        { { 0, 0, 1, 0, PGK_NONE, PGK_NONE }, 6, 1, 1, 0, "a source line without a source" },
+        { { 0, 0, 2, 3, 0, PGK_NONE, 1, 1, 2, 3, PGK_NONE, PGK_NONE }, 12, 1, 0, 1, "the source position before is repeated" },
+        { { 0, 0, 2, 3, 0, PGK_NONE, 1, 1, 0, 0, PGK_NONE, PGK_NONE }, 12, 1, 0, 0, "the source position before is not repeated" },
+        { { 1, 0, 2, 3, 0, PGK_NONE, 0, 0, 2, 3, 0, PGK_NONE }, 12, 1, 0, 0, "a line goes back" },
+        { { 1, 5, 2, 3, 0, PGK_NONE, 1, 0, 2, 3, 0, PGK_NONE }, 12, 1, 0, 1, "a column goes back" },
+        { { 4294967295u, 0, 0, 0, 4294967294u, 4294967294u }, 6, PGK_NONE, PGK_NONE, 1, "the largest line and ids" },
+    };
+    for (size_t i = 0; i < sizeof rows / sizeof *rows; i++) {
+        int ok = 1;
+        for (place w = FIRST; w < PLACES; w++)
+            ok &= premises_at(w, rows[i].token, rows[i].numbers, rows[i].s, rows[i].n, &ok) == rows[i].meets;
+        check(ok, rows[i].what);
+    }
+    int by_rule = 1, reads_back = 1;
+    unsigned met = 0, unmet = 0;
+    for (unsigned r = 0; r < rounds; r++) {
+        uint32_t table[96], line = 0, at[2] = { 0, 0 }, s = 1 + below(4), n = 1 + below(4);
+        size_t tokens = below(17), numbers = below(20) ? 6 * tokens : below(97);
+        for (size_t k = 0; k < 96; k += 6) {
+            uint32_t id = below(3) ? below(s) : none;
+            line += below(3);
+            table[k] = line; table[k + 1] = below(1000); table[k + 2] = below(5); table[k + 3] = below(5);
+            table[k + 4] = id; table[k + 5] = id != none && below(2) ? below(n) : none;
+            if (id == none) { table[k + 2] = at[0]; table[k + 3] = at[1]; }
+            at[0] = table[k + 2]; at[1] = table[k + 3];
+        }
+        size_t odd = below(96);   /* one number that may break it */
+        if (below(2) == 0) table[odd] = below(3) ? below(6) : odd % 6 == 0 ? line : none;
+        uint64_t want = premised(table, numbers, s, n);
+        for (place w = FIRST; w < PLACES; w++) by_rule &= premises_at(w, table, numbers, s, n, &by_rule) == want;
+        if (!want) { unmet++; continue; }
+        met++;
+        uint8_t text[36 * 16 + 2 * 16];   /* lines advance by at most two a token */
+        uint32_t again[96];
+        pgk_encoded e = pgk_encode(table, numbers, pgk_first_chunk((uint32_t)(numbers / 6)), text, sizeof text);
+        pgk_decoded d = pgk_decode_lenient(text, e.bytes, s, n, again, 96);
+        reads_back &= e.code == PGK_DONE && d.code == PGK_DONE && 6 * d.tokens == numbers && memcmp(table, again, 4 * numbers) == 0;
+    }
+    check(by_rule, "premises, by the rule, in every placement");
+    check(reads_back, "where the premises are met, what is written reads back");
+    check(met > 0 && unmet > 0, "premises that are met and that are not");
+}
+
+/* The header's own parts, and the version of the archive. */
+static void header(void) {
+    char text[64];
+    check(pgk_version() == PGK_VERSION, "the archive is of the header's version");
+    snprintf(text, sizeof text, "%u.%u.%u", PGK_VERSION / 1000000u, PGK_VERSION / 1000u % 1000u, PGK_VERSION % 1000u);
+    check(strcmp(text, PGK_VERSION_TEXT) == 0, "the version's number and text");
+    check(sizeof(pgk_token) == PGK_WIDTH * sizeof(uint32_t), "PGK_WIDTH");
+    pgk_chunk c = pgk_first_chunk(4294967295u), d = { 0, 4294967295u, 0, 0, 0, 0, 0, 0 };
+    check(same_chunk(c, d), "the first chunk");
+    int ok = 1;
+    for (uint64_t i = 0; i <= 15; i++) {
+        const char *words = pgk_words(i);
+        ok &= strlen(words) > 3 && words[strlen(words) - 1] != '.' && (strstr(words, ": ") != NULL) == (i != PGK_DONE);
+        for (uint64_t j = 0; j < i; j++) ok &= strcmp(words, pgk_words(j)) != 0;
+    }
+    check(ok, "a sentence for each code, with what to do");
+    check(pgk_words(15) == pgk_words(16) && pgk_words(15) == pgk_words(4294967296u) && pgk_words(15) == pgk_words(~(uint64_t)0), "one sentence for unknown codes");
+}
+
 typedef struct { const uint8_t *text; size_t len; const size_t *ends; size_t count; } names;
 
 static int sound(names n) {
@@ -473,8 +621,14 @@ static void empty(void) {
         ok &= g.code == 0 && g.number == 0 && g.added == 0;
         pgk_name n = pgk_name_of(b, 0, e, 0, b, 0, e, 0, t, 0, none);
         ok &= n.found == 0 && n.outer == 0 && n.start == 0 && n.end == 0;
+        ok &= pgk_table_size(b, 0) == 0 && pgk_meets_premises(t, 0, 0, 0) == 1;
     }
     check(ok, "length 0 with any aligned address");
+    /* The header's idiom. */
+    uint32_t dummy, *table = NULL;
+    size_t count = 0;
+    pgk_answer a = pgk_lookup(count ? table : &dummy, PGK_WIDTH * count, 0, 0);
+    check(a.code == PGK_DONE && a.number == PGK_NONE, "a dummy where there is nothing to lend");
     munmap(shut, PAGE);
 }
 
@@ -491,6 +645,7 @@ static void too_many(void) {
     check(pgk_translate(t, 6 * tokens, 0, 0, 0).code == 11, "BadTable past 4294967294 tokens: translate");
     check(pgk_translate_tokens((pgk_token *)t, tokens, 0, 0, 0).code == 11, "BadTable past 4294967294 records");
     check(pgk_lookup(t, 6 * tokens, 0, 0).code == 11, "BadTable past 4294967294 tokens: lookup");
+    check(pgk_meets_premises(t, 6 * tokens, none, none) == 0, "no premises past 4294967294 tokens");
     check(pgk_compose(t, 6 * tokens, 0, &byte, 0, &end, 0, &number, 0, &byte, 0, &end, 0, &number, 0, &number, 0).code == 11, "BadTable: compose, outer");
     check(pgk_compose(&number, 0, 0, &byte, 0, &end, 0, t, 6 * tokens, &byte, 0, &end, 0, &number, 0, &number, 0).code == 11, "BadTable: compose, inner");
     check(pgk_compose(&number, 0, 0, &byte, 0, (size_t *)t, 2147483648u, &number, 0, &byte, 0, &end, 0, &number, 0, &number, 0).code == 14, "BadNames past 2147483647 names, outer");
@@ -515,11 +670,14 @@ static void unset(void) {
 int main(int argc, char **argv) {
     unsigned rounds = argc > 1 ? (unsigned)strtoul(argv[1], NULL, 10) : 1000;
     for (int i = 0; i < 8; i++) pens[i] = new_pen();
+    header();
     worked();
     texts(rounds);
+    sizing(rounds);
     writing(rounds);
     translating(rounds);
     looking(rounds);
+    premises(rounds);
     composing(rounds);
     empty();
     too_many();

@@ -1,9 +1,10 @@
-/* The size, alignment and field offsets of each struct of the header, a line each. */
+/* The size, alignment and field offsets of each struct of the header, its constants and its words, a line each. */
 #include <stdio.h>
 #include <stddef.h>
 #include "peghayrick.h"
 
 #define TYPE(t) printf(#t " %zu %zu\n", sizeof(t), _Alignof(t))
+#define CODE(c) printf(#c " %u %s\n", c, pgk_words(c))
 #define FIELD(t, f) printf(#t "." #f " %zu %zu\n", offsetof(t, f), sizeof(((t *)0)->f))
 
 int main(void) {
@@ -47,5 +48,23 @@ int main(void) {
     FIELD(pgk_name, end);
     TYPE(size_t);
     printf("PGK_NONE %llu\n", (unsigned long long)PGK_NONE);
+    printf("PGK_WIDTH %u\n", PGK_WIDTH);
+    printf("PGK_VERSION %u\n", PGK_VERSION);
+    printf("PGK_VERSION_TEXT %s\n", PGK_VERSION_TEXT);
+    CODE(PGK_VLQ_LEFTOVER);
+    CODE(PGK_VLQ_OVERFLOW);
+    CODE(PGK_BAD_SEGMENT_SIZE);
+    CODE(PGK_BAD_SOURCE_REFERENCE);
+    CODE(PGK_BAD_NAME_REFERENCE);
+    CODE(PGK_WIDE_VALUE);
+    CODE(PGK_TABLE_FULL);
+    CODE(PGK_NO_ROOM);
+    CODE(PGK_LINE_GOES_BACK);
+    CODE(PGK_BAD_CHUNK);
+    CODE(PGK_BAD_TABLE);
+    CODE(PGK_TOO_BIG);
+    CODE(PGK_MORE_THAN_ONE_SOURCE);
+    CODE(PGK_BAD_NAMES);
+    printf("unknown %u %s\n", 99u, pgk_words(99));
     return 0;
 }

@@ -64,6 +64,31 @@ impl Text {
         Ok(())
     }
 
+    /// A table of the size that the library counts is never full, by the crate's tokens too; where each segment gives a token, a
+    /// place less is too few.
+    fn size_agrees(&self, m: &Decoded) -> Result<(), String> {
+        let (size, want) = (ours::table_size(&self.text), model::table_size(&self.text));
+        if size != want {
+            return Err(format!("table size: ours {size}, the model {want}"));
+        }
+        let whole = m.answer.code == model::DONE && 6 * m.tokens.len() == size && size > 0;
+        for entry in Entry::ALL {
+            let mut table = Lent::new(size);
+            let (a, tokens, _) = ours::decode(entry, &self.text, self.sources, self.names, &mut table);
+            if a.code == model::TABLE_FULL || 6 * tokens as usize > size {
+                return Err(format!("{entry:?}: {tokens} tokens and code {} in a table of {size} numbers", a.code));
+            }
+        }
+        if whole {
+            let mut table = Lent::new(size - 6);
+            let (a, ..) = ours::decode(Entry::Lenient, &self.text, self.sources, self.names, &mut table);
+            if a.code != model::TABLE_FULL {
+                return Err(format!("code {} in a table of {} numbers", a.code, size - 6));
+            }
+        }
+        Ok(())
+    }
+
     /// The library in one entry, with room for so many numbers.
     fn ours_agrees(&self, entry: Entry, numbers: usize) -> Result<Decoded, String> {
         let m = model::decode(entry.mode(), &self.text, self.sources, self.names, numbers / 6);
@@ -89,6 +114,7 @@ impl Case for Text {
     fn check(&self) -> Result<Vec<Class>, String> {
         let m = model::decode(Mode::Lenient, &self.text, self.sources, self.names, usize::MAX);
         self.crate_agrees(&m)?;
+        self.size_agrees(&m)?;
         // Rooms: one token more than it takes, just as many, one less, none; up to five numbers past a whole token.
         let count = m.tokens.len();
         let odd = (self.text.len() + count) % 6;

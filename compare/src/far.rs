@@ -1,5 +1,5 @@
 //! Texts of 4 GiB, where a 32-bit count comes round: only when asked for, with 13 GiB of memory. To decode such a text the crate asks
-//! for six times its length, so document 01's own numbers judge; the crate's release build writes its text.
+//! for six times its length, so the rules' own numbers judge; the crate's release build writes its text.
 
 use std::time::Instant;
 

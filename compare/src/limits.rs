@@ -1,4 +1,4 @@
-//! Lengths at the limits of document 01. The memory is lent without being there: pages of zeros, made when touched.
+//! Lengths at the limits of docs/RULES.md. The memory is lent without being there: pages of zeros, made when touched.
 
 use std::time::Instant;
 

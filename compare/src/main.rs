@@ -1,4 +1,4 @@
-//! Holds the library against the crate it was written from, and both against a plain model of document 01.
+//! Holds the library against the crate it was written from, and both against a plain model of docs/RULES.md.
 
 mod cases;
 mod composing;
@@ -39,17 +39,20 @@ fn args() -> Args {
             "--seed" => a.seed = value().parse().unwrap_or_else(|_| usage()),
             "--scale" => a.scale = value().parse().unwrap_or_else(|_| usage()),
             "--corpus" => a.corpus = Some(value().into()),
-            "--only" => a.only = Some(value()),
+            "--only" => a.only = Some(value()).filter(|part| PARTS.contains(&part.as_str())).or_else(|| usage()),
             _ => usage(),
         }
     }
     a
 }
 
+const PARTS: [&str; 9] = ["differences", "translate", "lookup", "compose", "write", "decode", "limits", "corpus", "far"];
+
 fn usage() -> ! {
     eprintln!(
         "usage: compare [--seed N] [--scale N] [--stop] [--corpus FOLDER] [record]
-               [--only differences|translate|lookup|compose|write|decode|limits|corpus|far]"
+               [--only {}]",
+        PARTS.join("|")
     );
     std::process::exit(2)
 }

@@ -1,4 +1,4 @@
-//! Document 01 as a plain program, written from its words and the readings of them. It is slow and has no tricks:
+//! docs/RULES.md as a plain program, written from the rules' words and apart from the library's code. It is slow and has no tricks:
 //! whole lists, wide integers, one rule after the other.
 
 pub const NONE: u32 = u32::MAX;
@@ -226,6 +226,11 @@ pub fn decode(mode: Mode, text: &[u8], sources: u32, names: u32, places: usize) 
     Decoded { answer: answer(DONE, 0), tokens, offset: text.len() }
 }
 
+/// The numbers of a table with a place for each run of bytes that are no delimiter.
+pub fn table_size(text: &[u8]) -> usize {
+    6 * text.split(|&b| is_delimiter(b)).filter(|run| !run.is_empty()).count()
+}
+
 // ---------------------------------------------------------------- writing
 
 /// A value in the fewest digits.
@@ -266,6 +271,24 @@ pub struct Encoded {
 /// Whether so many numbers are no table, as input.
 pub fn bad_table(numbers: usize) -> bool {
     numbers % 6 != 0 || numbers / 6 > MOST
+}
+
+/// Whether what is written of the table surely reads back.
+pub fn meets_premises(table: &[u32], sources: u32, names: u32) -> bool {
+    if bad_table(table.len()) {
+        return false;
+    }
+    let (mut line, mut position) = (0, (0, 0));
+    tokens_of(table).iter().all(|t| {
+        let forth = t.dst_line >= line;
+        line = t.dst_line;
+        let ids = (t.source_id == NONE || t.source_id < sources) && (t.name_id == NONE || t.name_id < names);
+        if t.source_id != NONE {
+            position = (t.src_line, t.src_col);
+            return forth && ids;
+        }
+        forth && ids && t.name_id == NONE && position == (t.src_line, t.src_col)
+    })
 }
 
 fn token_text(state: &mut TokenChunk, t: &Token) -> Vec<u8> {

@@ -20,6 +20,8 @@ unsafe extern "C" {
     fn pgk_translate(table: *mut u32, n: usize, line: u32, source: u32, name: u32) -> Answer;
     fn pgk_translate_tokens(tokens: *mut Token, n: usize, line: u32, source: u32, name: u32) -> Answer;
     fn pgk_lookup(table: *const u32, n: usize, line: u32, col: u32) -> Answer;
+    fn pgk_table_size(text: *const u8, n: usize) -> usize;
+    fn pgk_meets_premises(table: *const u32, n: usize, sources: u32, names: u32) -> u64;
 }
 
 const GUARD: usize = 16;
@@ -133,6 +135,20 @@ pub fn lookup(table: &[u32], line: u32, col: u32) -> Answer {
     let answer = unsafe { pgk_lookup(lent.as_ptr(), lent.len(), line, col) };
     assert!(lent == table, "the table changed");
     answer
+}
+
+pub fn table_size(text: &[u8]) -> usize {
+    let lent = text.to_vec();
+    let size = unsafe { pgk_table_size(lent.as_ptr(), lent.len()) };
+    assert!(lent == text, "the text changed");
+    size
+}
+
+pub fn meets_premises(table: &[u32], sources: u32, names: u32) -> u64 {
+    let lent = table.to_vec();
+    let yes = unsafe { pgk_meets_premises(lent.as_ptr(), lent.len(), sources, names) };
+    assert!(lent == table, "the table changed");
+    yes
 }
 
 /// The entries over memory that a caller of its own answers for.

@@ -357,7 +357,7 @@ fn translate(file: &mut File, seed: u64) {
     });
 }
 
-/// Where the crate's lookup has no way to differ from document 01's.
+/// Where the crate's lookup has no way to differ from ours.
 fn put_ask(file: &mut File, case: &Ask) {
     let tokens = case.tokens();
     if tokens.iter().any(|t| t.dst_line > looking::LINES) || looking::class_of(&tokens, case.line, case.col).is_some() {
@@ -393,7 +393,7 @@ fn lookup(file: &mut File, seed: u64) {
 
 // ---------------------------------------------------------------- composing
 
-/// Where the crate's lookup has no way to differ from document 01's, so that its composing is ours.
+/// Where the crate's lookup has no way to differ from ours, so that its composing is ours.
 fn put_pair(file: &mut File, case: &Pair) {
     let takes = case.crate_takes()
         && case.sources <= 1

@@ -1,4 +1,4 @@
-//! Translating, over tables and over records. Where document 01 refuses, the crate panics, wraps or loses an id.
+//! Translating, over tables and over records. Where the rules refuse, the crate panics, wraps or loses an id.
 
 use crate::cases::{Case, Class, EDGES, Random, Tally, met_code};
 use crate::decoding::random_tokens;

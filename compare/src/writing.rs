@@ -3,7 +3,7 @@
 use crate::cases::{Case, Class, EDGES, Random, Tally, met_code};
 use crate::decoding::random_tokens;
 use crate::model::{self, Encoded, NONE, Token, TokenChunk, table_of, tokens_of};
-use crate::ours::{LentBytes, writer};
+use crate::ours::{self, LentBytes, writer};
 use crate::theirs::BUILDS;
 
 pub const LINE_BACK: Class = "write: a line goes back; debug panics, release wraps";
@@ -77,8 +77,37 @@ impl Write {
     }
 }
 
+impl Write {
+    /// The test of the premises against the model; and where it says yes, the crate reads back what the crate writes.
+    fn premises_agree(&self) -> Result<(), String> {
+        let largest = |at: usize| {
+            let ids = self.table.iter().skip(at).step_by(6).filter(|&&id| id != NONE);
+            ids.copied().max().map_or(0, |id| id + 1)
+        };
+        let (sources, names) = (largest(4), largest(5));
+        for (s, n) in [(sources, names), (sources.max(1) - 1, names), (sources, names.max(1) - 1), (names, sources)] {
+            let (ours, want) = (ours::meets_premises(&self.table, s, n), model::meets_premises(&self.table, s, n));
+            if ours != u64::from(want) {
+                return Err(format!("premises with {s} sources and {n} names: ours {ours}, the model {want}"));
+            }
+            let chunk = TokenChunk { end: (self.table.len() / 6) as u32, ..TokenChunk::default() };
+            if want && model::encode(&self.table, chunk, 0).answer.number <= LONG {
+                let tokens = tokens_of(&self.table);
+                for build in BUILDS {
+                    let text = (build.encode)(&tokens, chunk).and_then(|text| String::from_utf8(text).ok());
+                    if text.and_then(|text| (build.decode)(&text, s, n)) != Some(Ok(tokens.clone())) {
+                        return Err(format!("the premises are met, and the {} crate does not read it back", build.name));
+                    }
+                }
+            }
+        }
+        Ok(())
+    }
+}
+
 impl Case for Write {
     fn check(&self) -> Result<Vec<Class>, String> {
+        self.premises_agree()?;
         let none = model::encode(&self.table, self.chunk, 0);
         let need = match none.answer.code {
             model::NO_ROOM => none.answer.number,

@@ -59,6 +59,8 @@ pub struct Name {
 
 #[allow(missing_docs)]
 extern "C" {
+    pub fn pgk_version() -> u64;
+    pub fn pgk_table_size(text: *const u8, text_len: usize) -> usize;
     pub fn pgk_decode(text: *const u8, text_len: usize, sources: u32, names: u32, table: *mut u32, table_len: usize) -> Decoded;
     pub fn pgk_decode_lenient(
         text: *const u8,
@@ -77,6 +79,7 @@ extern "C" {
         table_len: usize,
     ) -> Decoded;
     pub fn pgk_encode(table: *const u32, table_len: usize, chunk: TokenChunk, out: *mut u8, out_len: usize) -> Encoded;
+    pub fn pgk_meets_premises(table: *const u32, table_len: usize, sources: u32, names: u32) -> u64;
     pub fn pgk_translate(table: *mut u32, table_len: usize, line_offset: u32, source_offset: u32, name_offset: u32) -> Answer;
     pub fn pgk_translate_tokens(
         tokens: *mut Token,

@@ -11,9 +11,9 @@ pub struct Stop {
     pub offset: usize,
 }
 
-/// Why a call was refused. The codes are 1 to 14, in this order.
+/// Why a call was refused. The codes are 1 to 14, in this order; later versions may have more.
 ///
-/// `Display` says what is wrong and what to do:
+/// `Display` says what is wrong, where, and what to do; [`words`](Refusal::words) is one fixed sentence a code:
 ///
 /// ```
 /// use peghayrick::decode_checked;
@@ -28,6 +28,7 @@ pub struct Stop {
 /// );
 /// ```
 #[derive(Debug, Clone, Copy, PartialEq, Eq)]
+#[non_exhaustive]
 pub enum Refusal {
     /// 1: a value is cut short.
     VlqLeftover {
@@ -151,6 +152,22 @@ impl Refusal {
         }
     }
 
+    /// What the code says and what to do about it, one sentence a code, without a full stop: the C header's `pgk_words`.
+    ///
+    /// ```
+    /// use peghayrick::Refusal;
+    /// assert_eq!(
+    ///     Refusal::NoRoom { needed: 9 }.words(),
+    ///     "there is too little room: lend as many places as the number says and call again"
+    /// );
+    /// ```
+    pub const fn words(&self) -> &'static str {
+        match self {
+            Unknown { .. } => WORDS[14],
+            known => WORDS[known.code() as usize - 1],
+        }
+    }
+
     /// The number with the code; 0 where there is none.
     pub const fn number(&self) -> u64 {
         match *self {
@@ -199,6 +216,25 @@ impl Refusal {
     }
 }
 
+/// What the codes 1 to 14 say and what to do about each: `pgk_words` of the C header. The last is for an unknown code.
+const WORDS: [&str; 15] = [
+    "a value is cut short: do not use this map, build the bundle and its map again and load both",
+    "a value has more than 13 digits: do not use this map, build the bundle and its map again and load both",
+    "a segment has not 1, 4 or 5 fields, or a column or line falls below 0: do not use this map, build the bundle and its map again and load both",
+    "a segment refers to a source that the map does not list: hand in the count of sources first and that of names second; if they are right, do not use this map, build the bundle and its map again and load both",
+    "a segment refers to a name that the map does not list: hand in the count of sources first and that of names second; if they are right, do not use this map, build the bundle and its map again and load both",
+    "a number does not fit into 32 bits: do not use this map, build the bundle and its map again and load both",
+    "the table has too few places: lend as many numbers as table_size counts for the text, or to compose as many as the outer table has",
+    "there is too little room: lend as many places as the number says and call again",
+    "a token is on a line below that of the token before it: sort the tokens by generated line, or begin the chunk with the state that the chunk before it returned",
+    "the chunk does not lie within the table: its start must be at most its end, and its end at most the number of tokens",
+    "the table does not hold whole tokens, or holds more than 4294967294: hand in six numbers a token, and only the tokens that were written",
+    "a line or an id would become too large, and nothing was moved: use smaller offsets, or join fewer maps",
+    "the outer map has more than one source: compose only a map of a single input with that input's map",
+    "a name list is broken: its ends must not fall, the last must lie within the text, and at most 2147483647 names are taken",
+    "the code is unknown: link the libpeghayrick.a that belongs to this version",
+];
+
 /// What a damaged map calls for.
 const AGAIN: &str = "do not use this map: build the bundle and its map again and load both";
 
@@ -225,7 +261,7 @@ impl fmt::Display for Refusal {
         }
         match self {
             TableFull { at: Some(at) } => {
-                write!(f, "the table is full after {} tokens, at byte {} of the map ({name}); lend a larger table and decode again", at.tokens, at.offset)
+                write!(f, "the table is full after {} tokens, at byte {} of the map ({name}); lend as many numbers as table_size counts and decode again", at.tokens, at.offset)
             }
             TableFull { at: None } => write!(f, "the result table has fewer places than the outer map has tokens ({name}); lend one as long as the outer table"),
             NoRoom { needed } => write!(f, "there is too little room: {needed} places are needed ({name}); lend so many and call again"),

@@ -1,7 +1,7 @@
 //! Tokens, chunks and tables.
 
 use core::mem::{align_of, size_of, size_of_val};
-use core::slice;
+use core::{fmt, slice};
 
 /// As an id: none.
 pub const NONE: u32 = u32::MAX;
@@ -10,16 +10,29 @@ pub const NONE: u32 = u32::MAX;
 pub const WIDTH: usize = 6;
 
 /// One mapping: a generated position, a source position, and the ids of a source and a name, [`NONE`] for none.
+/// Lines and columns count from 0, columns in UTF-16 units.
+///
+/// Where there is no source, the source line and column say nothing and must not be shown.
+///
+/// ```
+/// use peghayrick::Token;
+/// let token = Token::new(0, 9, 2, 3, Some(0), None);
+/// assert_eq!(
+///     format!("{token:?}"),
+///     "Token { dst_line: 0, dst_col: 9, src_line: 2, src_col: 3, source_id: Some(0), name_id: None }"
+/// );
+/// assert_eq!(Token::default(), Token::new(0, 0, 0, 0, None, None));
+/// ```
 #[repr(C)]
-#[derive(Debug, Clone, Copy, PartialEq, Eq)]
+#[derive(Clone, Copy, PartialEq, Eq, Hash)]
 pub struct Token {
     /// The generated line.
     pub dst_line: u32,
     /// The generated column.
     pub dst_col: u32,
-    /// The source line.
+    /// The source line; of no meaning without a source.
     pub src_line: u32,
-    /// The source column.
+    /// The source column; of no meaning without a source.
     pub src_col: u32,
     /// The source id, or [`NONE`].
     pub source_id: u32,
@@ -56,12 +69,12 @@ impl Token {
         self.dst_col
     }
 
-    /// The source line.
+    /// The source line; of no meaning without a source.
     pub const fn get_src_line(&self) -> u32 {
         self.src_line
     }
 
-    /// The source column.
+    /// The source column; of no meaning without a source.
     pub const fn get_src_col(&self) -> u32 {
         self.src_col
     }
@@ -82,6 +95,27 @@ impl Token {
         } else {
             Some(self.name_id)
         }
+    }
+}
+
+/// At 0, 0, without a source and a name. Six zeros would be a token of source 0.
+impl Default for Token {
+    fn default() -> Self {
+        Self::new(0, 0, 0, 0, None, None)
+    }
+}
+
+/// The fields, ids as `None` or `Some(n)`.
+impl fmt::Debug for Token {
+    fn fmt(&self, f: &mut fmt::Formatter<'_>) -> fmt::Result {
+        f.debug_struct("Token")
+            .field("dst_line", &self.dst_line)
+            .field("dst_col", &self.dst_col)
+            .field("src_line", &self.src_line)
+            .field("src_col", &self.src_col)
+            .field("source_id", &self.get_source_id())
+            .field("name_id", &self.get_name_id())
+            .finish()
     }
 }
 

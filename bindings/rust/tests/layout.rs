@@ -1,9 +1,11 @@
-//! Holds the Rust structs to the C structs: `bindings/test` builds `bindings/tests/layout.c`, and names what it
-//! printed in `PEGHAYRICK_LAYOUT`.
+//! Holds the Rust structs, constants and words to those of the C header, which `bindings/tests/layout.c` prints. `bindings/test`
+//! names what it printed in `PEGHAYRICK_LAYOUT`; without that, it is built here.
 
 use core::mem::{align_of, offset_of, size_of};
-use peghayrick::{raw, Token, TokenChunk, NONE};
+use peghayrick::{raw, Refusal, Stop, Token, TokenChunk, NONE, VERSION, WIDTH};
 use std::fmt::Write;
+use std::path::Path;
+use std::process::Command;
 
 fn width<S, F>(_: fn(&S) -> &F) -> usize {
     size_of::<F>()
@@ -30,13 +32,65 @@ fn rust() -> String {
     layout!(out, "pgk_name", raw::Name: found outer start end);
     layout!(out, "size_t", usize:);
     writeln!(out, "PGK_NONE {NONE}").unwrap();
+    writeln!(out, "PGK_WIDTH {WIDTH}").unwrap();
+    writeln!(out, "PGK_VERSION {VERSION}").unwrap();
+    writeln!(out, "PGK_VERSION_TEXT {}", env!("CARGO_PKG_VERSION")).unwrap();
+    for refusal in refusals() {
+        writeln!(out, "PGK_{} {} {}", upper(refusal.name()), refusal.code(), refusal.words()).unwrap();
+    }
+    let unknown = Refusal::Unknown { code: 99, number: 0 };
+    writeln!(out, "unknown {} {}", unknown.code(), unknown.words()).unwrap();
     out
 }
 
+fn refusals() -> [Refusal; 14] {
+    let at = Stop { tokens: 0, offset: 0 };
+    [
+        Refusal::VlqLeftover { at },
+        Refusal::VlqOverflow { at },
+        Refusal::BadSegmentSize { fields: 2, at },
+        Refusal::BadSourceReference { source_id: 0, at },
+        Refusal::BadNameReference { name_id: 0, at },
+        Refusal::WideValue { field: 0, at },
+        Refusal::TableFull { at: None },
+        Refusal::NoRoom { needed: 1 },
+        Refusal::LineGoesBack { index: 0 },
+        Refusal::BadChunk,
+        Refusal::BadTable,
+        Refusal::TooBig { index: 0 },
+        Refusal::MoreThanOneSource,
+        Refusal::BadNames,
+    ]
+}
+
+/// `VlqLeftover` as `VLQ_LEFTOVER`.
+fn upper(name: &str) -> String {
+    let mut out = String::new();
+    for c in name.chars() {
+        if c.is_uppercase() && !out.is_empty() {
+            out.push('_');
+        }
+        out.push(c.to_ascii_uppercase());
+    }
+    out
+}
+
+/// What layout.c prints.
+fn c() -> String {
+    if let Some(path) = std::env::var_os("PEGHAYRICK_LAYOUT") {
+        return std::fs::read_to_string(path).expect("what layout.c printed");
+    }
+    let bindings = Path::new(env!("CARGO_MANIFEST_DIR")).join("..");
+    let program = Path::new(env!("CARGO_TARGET_TMPDIR")).join("layout");
+    let mut cc = Command::new("cc");
+    cc.arg("-I").arg(bindings.join("c")).arg(bindings.join("tests/layout.c")).arg("-o").arg(&program);
+    assert!(cc.status().expect("cc, or run bindings/test").success());
+    String::from_utf8(Command::new(program).output().expect("layout").stdout).expect("text")
+}
+
 #[test]
-fn the_structs_of_both_are_laid_out_alike() {
-    let path = std::env::var_os("PEGHAYRICK_LAYOUT").expect("run bindings/test, which builds the C side");
-    assert_eq!(rust(), std::fs::read_to_string(path).expect("what layout.c printed"));
+fn both_have_the_same_structs_constants_and_words() {
+    assert_eq!(rust(), c());
 }
 
 /// The sizes by number, so that both sides cannot move together.

@@ -50,7 +50,7 @@ fn decoding() {
     holds(second("AAAggggggI", true), Refusal::WideValue { field: 3, at: AT }, 6, 3, at, "source column");
     holds(second("AAAAD", true), Refusal::WideValue { field: 4, at: AT }, 6, 4, at, "name id");
     let full = decode_mapping(b"AAAA,A", 1, 0, &mut [7; 11]).unwrap_err();
-    holds(full, Refusal::TableFull { at }, 7, 0, at, "lend a larger table");
+    holds(full, Refusal::TableFull { at }, 7, 0, at, "as many numbers as table_size counts");
 }
 
 #[test]
@@ -115,6 +115,8 @@ fn nothing_lent() {
     assert_eq!(decode_checked(&[], NONE, NONE, &mut empty.clone()), Ok(Decoded { tokens: 0, offset: 0 }));
     assert_eq!(serialize_mappings(&empty, TokenChunk::default(), &mut []), Ok(Encoded { bytes: 0, next: TokenChunk::default() }));
     assert_eq!(lookup_token(&empty, 0, 0), Ok(None));
+    assert_eq!(table_size(&[]), 0);
+    assert!(meets_premises(&empty, 0, 0));
     assert_eq!(translate(&mut empty.clone(), 1, 1, 1), Ok(()));
     assert_eq!(compose(&empty, 0, Names::default(), &empty, Names::default(), &mut [], &mut []), Ok(Composed { added: 0 }));
     assert_eq!(name_of(Names::default(), Names::default(), &[], 0), None);

@@ -1,4 +1,4 @@
--- Document 01, "Mappings": what one segment does, step by step. Assumes nothing.
+-- docs/RULES.md, Mappings: what one segment does, step by step. Assumes nothing.
 use Prim.Native.Nat.{ℕ, _%_, _^_, _≤_}
 use lib.Dec.{eqb, ltb}
 use lib.IntN.{ℤ, pos, natAbs, _+ℤ_}

@@ -1,4 +1,4 @@
-// What one segment does to the running numbers: steps 1 to 5 of document 01, in its order.
+// What one segment does to the running numbers: steps 1 to 5 of docs/RULES.md, Mappings, in its order.
 use code::Code;
 use segment::Segment;
 use sums::Id;

@@ -14,7 +14,7 @@ use Rattle.list.specs.Put.{Put}
 use Rattle.vlq_write.specs.Size.{StepSize}
 use Rattle.vlq_write.specs.Write.{vlqValue, writeOf}
 use Rattle.vlq_write.proofs.Digits.{step-most, step-none}
-use Rattle.vlq_write.proofs.Put.{Due, due-all, due-is, due-none, due-fits, due-put}
+use Rattle.list.proofs.Put.{Due, due-all, due-is, due-none, due-fits, due-put}
 use Rattle.chunk.specs.Chunk.{lead, baseOf, fieldsOf, spelled, bytesOf}
 use Rattle.chunk.specs.Parts.{LeadSize, namedOf, NameSize, sourceOf, SourceSize}
 use Rattle.chunk.proofs.State.{SmallToken, SmallState, base-small}

@@ -9,7 +9,7 @@ use lib.ListN.{length, set, replicate, length-replicate}
 use borrow.Author.Tests.{eq-eqb, ne-eqb}
 use Rattle.list.specs.Pick.{pick}
 use Rattle.list.specs.Put.{Put}
-use Rattle.vlq_write.proofs.Put.{put-nothing, put-byte, put-then, put-is, Due, due-all, due-is, due-same, due-none, due-byte-fits, due-byte}
+use Rattle.list.proofs.Put.{put-nothing, put-byte, put-then, put-is, Due, due-all, due-is, due-same, due-none, due-byte-fits, due-byte}
 use Rattle.chunk.specs.Chunk.{lead}
 use Rattle.chunk.specs.Parts.{LeadSize}
 

@@ -1,4 +1,4 @@
--- Document 01, "Writing": the bytes of a list of tokens after a state, and the state that they leave. Assumes nothing.
+-- docs/RULES.md, Writing: the bytes of a list of tokens after a state, and the state that they leave. Assumes nothing.
 use mathlib.Core.Bool.{Bool}
 use mathlib.Core.List.{List, [], _∷_, _++_}
 use mathlib.Core.Option.{Option, none, some}
@@ -38,19 +38,10 @@ spelled (v ∷ vs) = writeOf v ++ spelled vs
 unfoldable pub bytesOf : Bool → TokenChunk → Token → List ℕ
 bytesOf first p t = lead first (p .«prev_dst_line») (t .«dst_line») ++ spelled (fieldsOf p t)
 
--- a chunk by its numbers
+-- a chunk by its numbers: start and end, then the previous line, column, source line, source column, name id and source id
 abbrev pub chunkOf : ℕ → ℕ → ℕ → ℕ → ℕ → ℕ → ℕ → ℕ → TokenChunk
-chunkOf start end line col srcLine srcCol name source =
-    record {
-      start = start;
-      end = end;
-      «prev_dst_line» = line;
-      «prev_dst_col» = col;
-      «prev_src_line» = srcLine;
-      «prev_src_col» = srcCol;
-      «prev_name_id» = name;
-      «prev_source_id» = source;
-    }
+chunkOf s e l c m d n o =
+    record { start = s; end = e; «prev_dst_line» = l; «prev_dst_col» = c; «prev_src_line» = m; «prev_src_col» = d; «prev_name_id» = n; «prev_source_id» = o }
 
 -- with another start and end
 abbrev pub withEnds : ℕ → ℕ → TokenChunk → TokenChunk

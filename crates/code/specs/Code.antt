@@ -1,4 +1,4 @@
--- Document 01, "Codes": the number of each code, and the number that goes with it. Assumes nothing.
+-- docs/RULES.md, Codes: the number of each code, and the number that goes with it. Assumes nothing.
 use Prim.Native.Nat.{ℕ}
 use Rattle.code.specs.declared.Code.{Code}
 use Rattle.code.specs.declared.Code.the-variants.{Done, VlqLeftover, VlqOverflow, BadSegmentSize, BadSourceReference, BadNameReference, WideValue, TableFull, NoRoom, LineGoesBack, BadChunk, BadTable, TooBig, MoreThanOneSource, BadNames}

@@ -1,4 +1,4 @@
-// The codes of document 01: what an entry says of its input, and the number that goes with it.
+// The codes of docs/RULES.md: what an entry says of its input, and the number that goes with it.
 ghost use mathlib.Core.Path.{_≡_};
 ghost use Rattle.code.specs.Code.{codeOf, numberOf};
 
@@ -20,7 +20,7 @@ pub enum Code {
     BadNames,
 }
 
-// The code's number in document 01's table.
+// The code's number in the table of docs/RULES.md.
 pub fn code_of(c: Code) -> u64
     ensures { λ r. ⌜ r ≡ codeOf c ⌝ }
 {

@@ -1,4 +1,4 @@
--- Document 01, "Lookup and composing": two maps into one. Assumes nothing.
+-- docs/RULES.md, Composing: two maps into one. Assumes nothing.
 use mathlib.Core.Path.{_≡_}
 use mathlib.Core.List.{List, [], _∷_}
 use mathlib.Core.Option.{Option, none, some}
@@ -12,7 +12,7 @@ use Rattle.code.specs.declared.Code.{Code}
 use Rattle.token.specs.Table.{token, isNone, places, badTable, tokenAt, tokensOf, over, noId}
 use Rattle.token.specs.declared.Token.{Token}
 use Rattle.lookup.specs.Lookup.{lookupOf}
-use Rattle.names.specs.Names.{NameList, count, sound}
+use Rattle.names.specs.Names.{NameList, nameList, count, sound}
 use Rattle.name_ids.specs.NameIds.{Named, outerNamed}
 use Rattle.compose.specs.declared.Composed.{Composed}
 
@@ -68,13 +68,7 @@ pub record Maps : Type 0 where
 -- the lent slices as maps
 abbrev pub mapsOf : List ℕ → ℕ → List ℕ → List ℕ → List ℕ → List ℕ → List ℕ → Maps
 mapsOf outer sources outerText outerEnds inner innerText innerEnds =
-    record {
-      outer = outer;
-      sources = sources;
-      outerNames = record { text = outerText; ends = outerEnds };
-      inner = inner;
-      innerNames = record { text = innerText; ends = innerEnds };
-    }
+    record { outer = outer; sources = sources; outerNames = nameList outerText outerEnds; inner = inner; innerNames = nameList innerText innerEnds }
 
 abbrev pub resultOf : Maps → Result
 resultOf m = composedFrom (m .innerNames) (m .outerNames) (m .inner) [] (tokensOf (m .outer))

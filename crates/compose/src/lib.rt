@@ -9,6 +9,7 @@ ghost use Prim.Native.Nat.{_<_};
 ghost use lib.ListN.{length};
 ghost use Rattle.token.specs.Table.{badTable, tokensOf};
 ghost use Rattle.name_ids.specs.Answers.{Searchable};
+ghost use Rattle.names.specs.Names.{nameList};
 ghost use Rattle.compose.specs.Compose.{madeOf, composedFrom, composed, Composes, mapsOf};
 ghost use Rattle.compose.specs.Steps.{unmappedBy, mappedBy, madeBy, Keeps, Ready, Written};
 
@@ -67,8 +68,8 @@ fn map_token(
     inner_ends: &[usize],
     ids: &[u32],
 ) -> Mapped
-    requires { ⌜ (badTable (length (now inner)) ≡ false) × Searchable (record { text = now «inner_names»; ends = now «inner_ends» }) (record { text = now «outer_names»; ends = now «outer_ends» }) (now ids) ⌝ }
-    ensures { λ r. ⌜ madeBy (now (ids .entry)) t r ≡ madeOf (record { text = now («inner_names» .entry); ends = now («inner_ends» .entry) }) (record { text = now («outer_names» .entry); ends = now («outer_ends» .entry) }) (now (inner .entry)) (now (ids .entry)) t ⌝ }
+    requires { ⌜ (badTable (length (now inner)) ≡ false) × Searchable (nameList (now «inner_names») (now «inner_ends»)) (nameList (now «outer_names») (now «outer_ends»)) (now ids) ⌝ }
+    ensures { λ r. ⌜ madeBy (now (ids .entry)) t r ≡ madeOf (nameList (now («inner_names» .entry)) (now («inner_ends» .entry))) (nameList (now («outer_names» .entry)) (now («outer_ends» .entry))) (now (inner .entry)) (now (ids .entry)) t ⌝ }
 {
     if t.source_id == token::NONE {
         return unmapped_token(t);
@@ -121,8 +122,8 @@ fn write_tokens(
     result: &mut [u32],
     added: &mut [u32],
 ) -> usize
-    requires { ⌜ Ready (record { text = now «inner_names»; ends = now «inner_ends» }) (record { text = now «outer_names»; ends = now «outer_ends» }) (now inner) (now outer) (length (now result)) (length (now added)) ⌝ }
-    ensures { λ r. ⌜ Written (composedFrom (record { text = now («inner_names» .entry); ends = now («inner_ends» .entry) }) (record { text = now («outer_names» .entry); ends = now («outer_ends» .entry) }) (now (inner .entry)) [] (tokensOf (now (outer .entry)))) (now (result .entry)) (now (added .entry)) r (now (result .exit)) (now (added .exit)) ⌝ }
+    requires { ⌜ Ready (nameList (now «inner_names») (now «inner_ends»)) (nameList (now «outer_names») (now «outer_ends»)) (now inner) (now outer) (length (now result)) (length (now added)) ⌝ }
+    ensures { λ r. ⌜ Written (composedFrom (nameList (now («inner_names» .entry)) (now («inner_ends» .entry))) (nameList (now («outer_names» .entry)) (now («outer_ends» .entry))) (now (inner .entry)) [] (tokensOf (now (outer .entry)))) (now (result .entry)) (now (added .entry)) r (now (result .exit)) (now (added .exit)) ⌝ }
 {
     let places = token::places_in(outer.len());
     let mut count: usize = 0;
@@ -145,7 +146,7 @@ fn write_tokens(
     count
 }
 
-// The first test that fails, in document 01's order; Done where none does.
+// The first test that fails, in the rules' order; Done where none does.
 fn refusal(
     outer: &[u32],
     outer_sources: u32,

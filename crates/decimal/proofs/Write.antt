@@ -5,7 +5,7 @@ use Prim.Native.Nat.{ℕ, _+_, _/_, _%_, _≤_, _<_}
 use native.Mathlib.Omega.{arith}
 use lib.ListN.{length, set, length-append}
 use Rattle.list.specs.Put.{Put}
-use Rattle.vlq_write.proofs.Put.{put-byte, put-then, put-long, put-is}
+use Rattle.list.proofs.Put.{put-byte, put-then, put-long, put-is}
 use Rattle.decimal.specs.Decimal.{figure, figuresOf}
 use Rattle.decimal.proofs.Figures.{one-figure, then-last}
 

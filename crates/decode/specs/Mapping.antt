@@ -1,4 +1,4 @@
--- Document 01, "Mappings": a whole text, into a table with so many places. Assumes nothing.
+-- docs/RULES.md, Mappings: a whole text, into a table with so many places. Assumes nothing.
 use mathlib.Core.Path.{_≡_}
 use mathlib.Core.List.{List, [], _∷_}
 use Prim.Native.Nat.{ℕ, zero, suc}

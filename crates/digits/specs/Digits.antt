@@ -1,4 +1,4 @@
--- Document 01, "Values": the sixty-four characters in order, the two delimiters, and what each other byte reads as.
+-- docs/RULES.md, Values: the sixty-four characters in order, the two delimiters, and what each other byte reads as.
 -- Assumes nothing.
 use mathlib.Core.Bool.{Bool, true, false}
 use mathlib.Core.List.{List, [], _∷_}

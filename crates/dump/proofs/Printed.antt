@@ -9,7 +9,7 @@ use borrow.Author.Tests.{lt-ltb, le-ltb}
 use Rattle.list.specs.Memory.{onto}
 use Rattle.list.specs.Put.{Put}
 use Rattle.list.proofs.Memory.{length-onto}
-use Rattle.encode.proofs.Write.{put-onto}
+use Rattle.list.proofs.Put.{put-onto}
 use Rattle.value.specs.declared.Mode.{Mode}
 use Rattle.decode.specs.Mapping.{decoded}
 use Rattle.first_line.specs.FirstLine.{Reads}

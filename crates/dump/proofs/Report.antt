@@ -6,7 +6,7 @@ use native.Mathlib.Omega.{arith}
 use lib.ListN.{length, drop, length-append}
 use Rattle.list.specs.Memory.{onto}
 use Rattle.list.specs.Put.{Put}
-use Rattle.vlq_write.proofs.Put.{put-then, put-long}
+use Rattle.list.proofs.Put.{put-then, put-long}
 use Rattle.token.specs.Table.{places, tokensFrom, flat, over}
 use Rattle.token.specs.declared.Token.{Token}
 use Rattle.token.proofs.Laws.{tokens-flat}

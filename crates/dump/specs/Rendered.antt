@@ -1,4 +1,4 @@
--- Document 01, "The program dumpmap": what is printed for an input. Assumes nothing.
+-- docs/RULES.md, dumpmap: what is printed for an input. Assumes nothing.
 use mathlib.Core.Path.{_≡_}
 use mathlib.Core.List.{List, _++_}
 use Prim.Native.Nat.{ℕ, _≤_}

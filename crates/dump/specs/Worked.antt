@@ -1,4 +1,4 @@
--- Document 01, "The program dumpmap": what is printed for some inputs, as one table, computed from the definitions. Assumes nothing.
+-- docs/RULES.md, dumpmap: what is printed for some inputs, as one table, computed from the definitions. Assumes nothing.
 use mathlib.Core.Path.{_≡_, refl}
 use mathlib.Core.List.{List, [], _∷_}
 use Prim.Native.Nat.{ℕ}

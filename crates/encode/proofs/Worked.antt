@@ -1,4 +1,4 @@
--- Document 01, "Worked texts": what writes back, computed from the definitions. Assumes nothing.
+-- docs/RULES.md, Worked texts: what writes back, computed from the definitions. Assumes nothing.
 use mathlib.Core.Path.{_≡_, refl}
 use mathlib.Core.List.{List, [], _∷_}
 use Prim.Native.Nat.{ℕ}

@@ -5,7 +5,7 @@ use mathlib.Core.Option.{none, some}
 use Prim.Native.Nat.{ℕ, _+_, _≤_, _<_}
 use native.Mathlib.Omega.{arith}
 use native.Mathlib.Decide.{decLe}
-use native.Mathlib.Nat.{zero-add, lt-of-not-le}
+use native.Mathlib.Nat.{lt-of-not-le}
 use lib.Dec.{eqb}
 use lib.ListN.{length}
 use Rattle.list.specs.Memory.{onto, blit}
@@ -14,7 +14,7 @@ use Rattle.token.specs.Table.{tokenAt}
 use Rattle.token.specs.declared.Token.{Token}
 use Rattle.token.specs.declared.TokenChunk.{TokenChunk}
 use Rattle.list.specs.Put.{Put}
-use Rattle.vlq_write.proofs.Put.{Due, due-all, due-is, due-same, due-none, due-fits, due-put}
+use Rattle.list.proofs.Put.{Due, put-onto, due-all, due-is, due-same, due-none, due-fits, due-put}
 use Rattle.chunk.specs.Chunk.{bytesOf, after, endOf}
 use Rattle.encode.specs.Encode.{tokensIn, bytesIn, nextChunk}
 use Rattle.encode.specs.Passes.{Inside, Writable, Writes}
@@ -46,11 +46,6 @@ module _ (table : List ℕ) (c p : TokenChunk) (i : ℕ) (f : Forward table c p 
         before-end = omega arith;
         forth = rw (after-line p t) (sym (back-next table (c .end) i t et h (p .«prev_dst_line») forward-line) ∙ f .forth);
       }
-
--- a run put at the start
-pub put-onto : (out bs : List ℕ) (r : ℕ) (out′ : List ℕ) → Put out 0 bs r out′ → (r ≡ length bs) × (out′ ≡ onto bs out)
-unfolding blit onto
-put-onto out bs r out′ q = (q .past ∙ zero-add (length bs), q .wrote ∙ rw zero-add)
 
 -- the bytes from i on are due
 pub record Writing (table : List ℕ) (c : TokenChunk) (out₀ out : List ℕ) (p : TokenChunk) (i at : ℕ) : Type 0 where

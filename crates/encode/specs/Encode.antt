@@ -1,4 +1,4 @@
--- Document 01, "Writing": the answer of the writer, its refusals in order, and what the lent bytes hold then. Assumes nothing.
+-- docs/RULES.md, Writing: the answer of the writer, its refusals in order, and what the lent bytes hold then. Assumes nothing.
 use mathlib.Core.Path.{_≡_}
 use mathlib.Core.Bool.{Bool, true}
 use mathlib.Core.List.{List}

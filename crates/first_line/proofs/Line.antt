@@ -11,7 +11,7 @@ use lib.Seq.{drop-append-add}
 use borrow.Author.Tests.{eqb-true, eqb-false, ltb-false}
 use Rattle.list.specs.Pick.{pick}
 use Rattle.decimal.specs.Decimal.{Figures, decimalFrom}
-use Rattle.first_line.specs.FirstLine.{line, Stated, Reads}
+use Rattle.first_line.specs.FirstLine.{countsLine, Stated, Reads}
 use Rattle.first_line.specs.Reading.{isFigure, endedAt, numberFrom, numberAt, second, first, firstLine}
 use Rattle.first_line.specs.declared.FirstLine.{FirstLine}
 use Rattle.first_line.specs.declared.Number.{Number}
@@ -105,10 +105,10 @@ module _ (stop : ℕ) (below : stop < 48) where
 -- ---- the line
 
 module _ (ds es rest : List ℕ) where
-  parts : line ds es ++ rest ≡ ds ++ (32 ∷ (es ++ (10 ∷ rest)))
+  parts : countsLine ds es ++ rest ≡ ds ++ (32 ∷ (es ++ (10 ∷ rest)))
   parts = append-assoc ds (32 ∷ (es ++ (10 ∷ []))) rest ∙ ap (λ (l : List ℕ). ds ++ (32 ∷ l)) (append-assoc es (10 ∷ []) rest)
 
-  length-line : length (line ds es) ≡ length ds + 1 + length es + 1
+  length-line : length (countsLine ds es) ≡ length ds + 1 + length es + 1
   length-line = length-append ds (32 ∷ (es ++ (10 ∷ []))) ∙ omega (arith, length-append es (10 ∷ []))
 
 module _ (input : List ℕ) where
@@ -213,4 +213,4 @@ module _ (input : List ℕ) where
   pub begins-within : (r : FirstLine) → Reads input r → (sources names at : ℕ) → r ≡ FirstLine.Counts sources names at → at ≤ length input
   begins-within r h sources names at e =
       let t : Stated input sources names at = subst (Reads input) e h in
-      omega (arith, t .begins, ap length (t .whole), length-append (line (t .ds) (t .es)) (t .rest))
+      omega (arith, t .begins, ap length (t .whole), length-append (countsLine (t .ds) (t .es)) (t .rest))

@@ -1,4 +1,4 @@
--- Document 01, "The program dumpmap": the first line as a function that computes, a count read up to the byte that must stop it.
+-- docs/RULES.md, dumpmap: the first line as a function that computes, a count read up to the byte that must stop it.
 -- Its answer is the one that `Reads` has: `computed-reads` and `reads-computed` (proofs/Line.antt). Assumes nothing.
 use mathlib.Core.Bool.{Bool}
 use mathlib.Core.List.{List, [], _∷_}

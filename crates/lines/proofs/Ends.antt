@@ -6,7 +6,7 @@ use native.Mathlib.Omega.{arith}
 use lib.ListN.{length, length-append}
 use borrow.Author.Tests.{eq-eqb, ne-eqb}
 use Rattle.list.specs.Put.{Put}
-use Rattle.vlq_write.proofs.Put.{Due, due-all, due-is}
+use Rattle.list.proofs.Put.{Due, due-all, due-is}
 use Rattle.code.specs.Code.{codeOf, numberOf}
 use Rattle.code.specs.declared.Code.{Code}
 use Rattle.decimal.specs.Decimal.{figuresOf}

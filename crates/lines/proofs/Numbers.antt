@@ -9,7 +9,7 @@ use borrow.Author.Tests.{eq-eqb, ne-eqb}
 use Rattle.list.specs.Pick.{pick}
 use Rattle.list.specs.Put.{Put}
 use Rattle.list.proofs.Pick.{pick-ind}
-use Rattle.vlq_write.proofs.Put.{Due, put-is, due-all, due-is, due-same, due-none, due-fits, due-put, due-byte, due-byte-fits}
+use Rattle.list.proofs.Put.{Due, put-is, due-all, due-is, due-same, due-none, due-fits, due-put, due-byte, due-byte-fits}
 use Rattle.token.specs.Table.{isNone, noId}
 use Rattle.decimal.specs.Decimal.{figuresOf}
 use Rattle.decimal.proofs.Figures.{ten}

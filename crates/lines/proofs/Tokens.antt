@@ -8,7 +8,7 @@ use lib.ListN.{length, length-append}
 use mir.Syntax.{w32}
 use mir.Val.{Fits}
 use Rattle.list.specs.Put.{Put}
-use Rattle.vlq_write.proofs.Put.{Due, put-nothing, put-then, put-long, put-is, due-all}
+use Rattle.list.proofs.Put.{Due, put-nothing, put-then, put-long, put-is, due-all}
 use Rattle.token.specs.Table.{places, tokenAt, tokensFrom}
 use Rattle.token.specs.declared.Token.{Token}
 use Rattle.token.proofs.Laws.{tokens-add}

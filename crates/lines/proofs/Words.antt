@@ -8,7 +8,7 @@ use native.Mathlib.Numerals.{add-one}
 use lib.ListN.{length, drop, getD, set, drop-of-length-le}
 use lib.Seq.{drop-cons}
 use Rattle.list.specs.Put.{Put}
-use Rattle.vlq_write.proofs.Put.{Due, due-all, due-is, due-same, due-room, due-none, due-fits, due-put, due-byte, due-byte-fits}
+use Rattle.list.proofs.Put.{Due, due-all, due-is, due-same, due-room, due-none, due-fits, due-put, due-byte, due-byte-fits}
 use Rattle.lines.specs.Lines.{line}
 
 -- ---- the bytes of a word

@@ -1,4 +1,4 @@
--- Document 01, "The program dumpmap": the lines that are printed, as bytes. Assumes nothing.
+-- docs/RULES.md, dumpmap: the lines that are printed, as bytes. Assumes nothing.
 use mathlib.Core.List.{List, [], _∷_, _++_}
 use Prim.Native.Nat.{ℕ}
 use lib.Dec.{eqb}

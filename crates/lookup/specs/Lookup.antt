@@ -1,4 +1,4 @@
--- Document 01, "Lookup": which token is found at a position. Assumes nothing.
+-- docs/RULES.md, Looking up: which token is found at a position. Assumes nothing.
 use mathlib.Core.Path.{_≡_}
 use mathlib.Core.Bool.{Bool, true}
 use mathlib.Core.Logic.{_⊎_}

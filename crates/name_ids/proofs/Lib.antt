@@ -2,3 +2,4 @@ pub mod Find
 pub mod Grow
 pub mod Holes
 pub mod Known
+pub mod Unique

@@ -1,4 +1,4 @@
--- Document 01, "Lookup and composing": the id that composing gives an outer name. Assumes nothing.
+-- docs/RULES.md, Composing: the id that composing gives an outer name. Assumes nothing.
 use mathlib.Core.Path.{_≡_}
 use mathlib.Core.Bool.{Bool, true}
 use mathlib.Core.List.{List, [], _∷_, _++_}

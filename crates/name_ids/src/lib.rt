@@ -3,7 +3,7 @@ ghost use mathlib.Core.Path.{_≡_};
 ghost use mathlib.Core.Bool.{true};
 ghost use Prim.Native.Nat.{ℕ, _<_};
 ghost use lib.ListN.{length, getD};
-ghost use Rattle.names.specs.Names.{sound};
+ghost use Rattle.names.specs.Names.{nameList, sound};
 ghost use Rattle.name_ids.specs.NameIds.{firstName, firstAdded, outerNamed};
 ghost use Rattle.name_ids.specs.Answers.{searchOf, namedBy, Searchable};
 
@@ -21,8 +21,8 @@ pub struct NameId {
 
 // The first name of a list with these bytes.
 fn first_name(text: &[u8], ends: &[usize], name: &[u8]) -> Search
-    requires { ⌜ sound (record { text = now text; ends = now ends }) ≡ true ⌝ }
-    ensures { λ r. ⌜ r ≡ searchOf (firstName (record { text = now (text .entry); ends = now (ends .entry) }) (now (name .entry)) 0 (length (now (ends .entry)))) ⌝ }
+    requires { ⌜ sound (nameList (now text) (now ends)) ≡ true ⌝ }
+    ensures { λ r. ⌜ r ≡ searchOf (firstName (nameList (now (text .entry)) (now (ends .entry))) (now (name .entry)) 0 (length (now (ends .entry)))) ⌝ }
 {
     let mut k: usize = 0;
     while k < ends.len() {
@@ -36,8 +36,8 @@ fn first_name(text: &[u8], ends: &[usize], name: &[u8]) -> Search
 
 // The first of the added names with these bytes.
 fn first_added(text: &[u8], ends: &[usize], ids: &[u32], name: &[u8]) -> Search
-    requires { ⌜ (sound (record { text = now text; ends = now ends }) ≡ true) × ((j : ℕ) → j < length (now ids) → getD (now ids) j 0 < length (now ends)) ⌝ }
-    ensures { λ r. ⌜ r ≡ searchOf (firstAdded (record { text = now (text .entry); ends = now (ends .entry) }) (now (name .entry)) 0 (now (ids .entry))) ⌝ }
+    requires { ⌜ (sound (nameList (now text) (now ends)) ≡ true) × ((j : ℕ) → j < length (now ids) → getD (now ids) j 0 < length (now ends)) ⌝ }
+    ensures { λ r. ⌜ r ≡ searchOf (firstAdded (nameList (now (text .entry)) (now (ends .entry))) (now (name .entry)) 0 (now (ids .entry))) ⌝ }
 {
     let mut j: usize = 0;
     while j < ids.len() {
@@ -59,8 +59,8 @@ pub fn outer_name_id(
     ids: &[u32],
     id: u32,
 ) -> NameId
-    requires { ⌜ Searchable (record { text = now «inner_names»; ends = now «inner_ends» }) (record { text = now «outer_names»; ends = now «outer_ends» }) (now ids) ⌝ }
-    ensures { λ r. ⌜ namedBy (now (ids .entry)) id r ≡ outerNamed (record { text = now («inner_names» .entry); ends = now («inner_ends» .entry) }) (record { text = now («outer_names» .entry); ends = now («outer_ends» .entry) }) (now (ids .entry)) id ⌝ }
+    requires { ⌜ Searchable (nameList (now «inner_names») (now «inner_ends»)) (nameList (now «outer_names») (now «outer_ends»)) (now ids) ⌝ }
+    ensures { λ r. ⌜ namedBy (now (ids .entry)) id r ≡ outerNamed (nameList (now («inner_names» .entry)) (now («inner_ends» .entry))) (nameList (now («outer_names» .entry)) (now («outer_ends» .entry))) (now (ids .entry)) id ⌝ }
 {
     let k = id as usize;
     if outer_ends.len() <= k {

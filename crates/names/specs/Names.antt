@@ -1,4 +1,4 @@
--- Document 01, "Lookup and composing": name lists. Assumes nothing.
+-- docs/RULES.md, Names: name lists. Assumes nothing.
 use mathlib.Core.Bool.{Bool, true, false}
 use mathlib.Core.List.{List, [], _∷_}
 use mathlib.Core.Option.{Option, none, some}
@@ -12,6 +12,10 @@ use Rattle.names.specs.declared.NamePlace.{NamePlace}
 pub record NameList : Type 0 where
   pub text : List ℕ
   pub ends : List ℕ
+
+-- a lent text and its lent ends
+abbrev pub nameList : List ℕ → List ℕ → NameList
+nameList text ends = record { text = text; ends = ends }
 
 abbrev pub count : NameList → ℕ
 count l = length (l .ends)

@@ -3,7 +3,7 @@ ghost use mathlib.Core.Path.{_≡_};
 ghost use mathlib.Core.Bool.{true};
 ghost use Prim.Native.Nat.{_<_, _≤_};
 ghost use lib.ListN.{length};
-ghost use Rattle.names.specs.Names.{beginOf, sound, nameAt, same, exists, placeOf, nameOf};
+ghost use Rattle.names.specs.Names.{nameList, beginOf, sound, nameAt, same, exists, placeOf, nameOf};
 
 // The most names that a list may have.
 pub const MOST: usize = 2147483647;
@@ -29,7 +29,7 @@ fn begin_of(ends: &[usize], k: usize) -> usize
 
 // Whether a text and its ends are a name list.
 pub fn sound_names(text: &[u8], ends: &[usize]) -> bool
-    ensures { λ r. ⌜ r ≡ sound (record { text = now (text .entry); ends = now (ends .entry) }) ⌝ }
+    ensures { λ r. ⌜ r ≡ sound (nameList (now (text .entry)) (now (ends .entry))) ⌝ }
 {
     if MOST < ends.len() {
         return false;
@@ -49,8 +49,8 @@ pub fn sound_names(text: &[u8], ends: &[usize]) -> bool
 
 // The k-th name, a part of the text.
 pub fn name_at<'a>(text: &'a [u8], ends: &[usize], k: usize) -> &'a [u8]
-    requires { ⌜ (sound (record { text = now text; ends = now ends }) ≡ true) × (k < length (now ends)) ⌝ }
-    ensures { λ r. ⌜ now r ≡ nameAt (record { text = now (text .entry); ends = now (ends .entry) }) k ⌝ }
+    requires { ⌜ (sound (nameList (now text) (now ends)) ≡ true) × (k < length (now ends)) ⌝ }
+    ensures { λ r. ⌜ now r ≡ nameAt (nameList (now (text .entry)) (now (ends .entry))) k ⌝ }
 {
     let start = begin_of(ends, k);
     let end = ends[k];
@@ -82,7 +82,7 @@ pub fn name_exists(
     added: &[u32],
     id: u32,
 ) -> bool
-    ensures { λ r. ⌜ r ≡ exists (record { text = now (inner .entry); ends = now («inner_ends» .entry) }) (record { text = now (outer .entry); ends = now («outer_ends» .entry) }) (now (added .entry)) id ⌝ }
+    ensures { λ r. ⌜ r ≡ exists (nameList (now (inner .entry)) (now («inner_ends» .entry))) (nameList (now (outer .entry)) (now («outer_ends» .entry))) (now (added .entry)) id ⌝ }
 {
     if !sound_names(inner, inner_ends) {
         return false;
@@ -110,7 +110,7 @@ pub fn name_of<'a>(
     added: &[u32],
     id: u32,
 ) -> &'a [u8]
-    ensures { λ r. ⌜ now r ≡ nameOf (record { text = now (inner .entry); ends = now («inner_ends» .entry) }) (record { text = now (outer .entry); ends = now («outer_ends» .entry) }) (now (added .entry)) id ⌝ }
+    ensures { λ r. ⌜ now r ≡ nameOf (nameList (now (inner .entry)) (now («inner_ends» .entry))) (nameList (now (outer .entry)) (now («outer_ends» .entry))) (now (added .entry)) id ⌝ }
 {
     if !name_exists(inner, inner_ends, outer, outer_ends, added, id) {
         return &inner[0..0];
@@ -133,7 +133,7 @@ pub fn name_place(
     added: &[u32],
     id: u32,
 ) -> NamePlace
-    ensures { λ r. ⌜ r ≡ placeOf (record { text = now (inner .entry); ends = now («inner_ends» .entry) }) (record { text = now (outer .entry); ends = now («outer_ends» .entry) }) (now (added .entry)) id ⌝ }
+    ensures { λ r. ⌜ r ≡ placeOf (nameList (now (inner .entry)) (now («inner_ends» .entry))) (nameList (now (outer .entry)) (now («outer_ends» .entry))) (now (added .entry)) id ⌝ }
 {
     if !name_exists(inner, inner_ends, outer, outer_ends, added, id) {
         return NamePlace {

@@ -9,10 +9,16 @@ use token::Token;
 use token::TokenChunk;
 ghost use mathlib.Core.Path.{_≡_};
 ghost use Rattle.value.specs.declared.Mode.{Mode};
-ghost use Rattle.names.specs.Names.{placeOf};
-ghost use Rattle.compose.specs.Compose.{mapsOf};
+ghost use Rattle.names.specs.Names.{nameList, placeOf};
+ghost use Rattle.decode.specs.Mapping.{Decodes};
+ghost use Rattle.table_size.specs.Size.{tableSize};
+ghost use Rattle.encode.specs.Encode.{Encodes};
+ghost use Rattle.premises.specs.Premises.{Decides};
+ghost use Rattle.translate.specs.Translate.{Translates};
+ghost use Rattle.lookup.specs.Lookup.{Looks};
+ghost use Rattle.compose.specs.Compose.{mapsOf, Composes};
 ghost use Rattle.records.specs.Records.{TranslatesRecords, answerOf};
-ghost use Rattle.peghayrick.specs.Exports.{decodedOut, DecodesOut, encodedOut, EncodesOut, TranslatesOut, LooksOut, composedOut, ComposesOut, flag, nameOut};
+ghost use Rattle.peghayrick.specs.Exports.{Goes, version, flag, decodedOut, encodedOut, foundOut, composedOut, nameOut};
 
 // A decode's code and number, how many tokens it wrote, and the offset.
 #[repr(C)]
@@ -111,10 +117,34 @@ fn answer_out(c: Code) -> Answer
     }
 }
 
+// What the header's PGK_VERSION must be.
+#[no_mangle]
+pub extern "C" fn pgk_version() -> u64
+    ensures { λ r. ⌜ r ≡ version ⌝ }
+{
+    2000
+}
+
+// The numbers that a table needs so that decoding the text never says TableFull.
+#[no_mangle]
+pub extern "C" fn pgk_table_size(text: &[u8]) -> usize
+    ensures { λ r. ⌜ r ≡ tableSize (now (text .entry)) ⌝ }
+{
+    table_size::table_size(text)
+}
+
+// 1 where what is written of the table surely reads back, else 0.
+#[no_mangle]
+pub extern "C" fn pgk_meets_premises(table: &[u32], sources: u32, names: u32) -> u64
+    ensures { λ r. ⌜ Goes (Decides (now (table .entry)) sources names) flag r ⌝ }
+{
+    flag_of(premises::meets_premises(table, sources, names))
+}
+
 // The decode that names no mode: lenient.
 #[no_mangle]
 pub extern "C" fn pgk_decode(text: &[u8], sources: u32, names: u32, table: &mut [u32]) -> DecodedOut
-    ensures { λ r. ⌜ DecodesOut Mode.Lenient sources names (now (text .entry)) (now (table .entry)) r (now (table .exit)) ⌝ }
+    ensures { λ r. ⌜ Goes (λ d. Decodes Mode.Lenient sources names (now (text .entry)) (now (table .entry)) d (now (table .exit))) decodedOut r ⌝ }
 {
     decoded_out(decode::decode_mapping(text, sources, names, table))
 }
@@ -126,7 +156,7 @@ pub extern "C" fn pgk_decode_lenient(
     names: u32,
     table: &mut [u32],
 ) -> DecodedOut
-    ensures { λ r. ⌜ DecodesOut Mode.Lenient sources names (now (text .entry)) (now (table .entry)) r (now (table .exit)) ⌝ }
+    ensures { λ r. ⌜ Goes (λ d. Decodes Mode.Lenient sources names (now (text .entry)) (now (table .entry)) d (now (table .exit))) decodedOut r ⌝ }
 {
     decoded_out(decode::decode_lenient(text, sources, names, table))
 }
@@ -138,14 +168,14 @@ pub extern "C" fn pgk_decode_checked(
     names: u32,
     table: &mut [u32],
 ) -> DecodedOut
-    ensures { λ r. ⌜ DecodesOut Mode.Checked sources names (now (text .entry)) (now (table .entry)) r (now (table .exit)) ⌝ }
+    ensures { λ r. ⌜ Goes (λ d. Decodes Mode.Checked sources names (now (text .entry)) (now (table .entry)) d (now (table .exit))) decodedOut r ⌝ }
 {
     decoded_out(decode::decode_checked(text, sources, names, table))
 }
 
 #[no_mangle]
 pub extern "C" fn pgk_encode(table: &[u32], chunk: TokenChunk, out: &mut [u8]) -> EncodedOut
-    ensures { λ r. ⌜ EncodesOut (now (table .entry)) chunk (now (out .entry)) r (now (out .exit)) ⌝ }
+    ensures { λ r. ⌜ Goes (λ e. Encodes (now (table .entry)) chunk (now (out .entry)) e (now (out .exit))) encodedOut r ⌝ }
 {
     encoded_out(encode::serialize_mappings(table, chunk, out))
 }
@@ -157,7 +187,7 @@ pub extern "C" fn pgk_translate(
     source_offset: u32,
     name_offset: u32,
 ) -> Answer
-    ensures { λ r. ⌜ TranslatesOut «line_offset» «source_offset» «name_offset» (now (table .entry)) r (now (table .exit)) ⌝ }
+    ensures { λ r. ⌜ Goes (λ c. Translates «line_offset» «source_offset» «name_offset» (now (table .entry)) c (now (table .exit))) answerOf r ⌝ }
 {
     answer_out(translate::translate(table, line_offset, source_offset, name_offset))
 }
@@ -177,7 +207,7 @@ pub extern "C" fn pgk_translate_tokens(
 // Code 0 carries the token's index, or 4,294,967,295 where there is none.
 #[no_mangle]
 pub extern "C" fn pgk_lookup(table: &[u32], line: u32, col: u32) -> Answer
-    ensures { λ r. ⌜ LooksOut (now (table .entry)) line col r ⌝ }
+    ensures { λ r. ⌜ Goes (Looks (now (table .entry)) line col) foundOut r ⌝ }
 {
     let f = lookup::lookup_token(table, line, col);
     Answer {
@@ -198,7 +228,7 @@ pub extern "C" fn pgk_compose(
     result: &mut [u32],
     added: &mut [u32],
 ) -> ComposedOut
-    ensures { λ r. ⌜ ComposesOut (mapsOf (now (outer .entry)) «outer_sources» (now («outer_names» .entry)) (now («outer_ends» .entry)) (now (inner .entry)) (now («inner_names» .entry)) (now («inner_ends» .entry))) (now (result .entry)) (now (added .entry)) r (now (result .exit)) (now (added .exit)) ⌝ }
+    ensures { λ r. ⌜ Goes (λ m. Composes (mapsOf (now (outer .entry)) «outer_sources» (now («outer_names» .entry)) (now («outer_ends» .entry)) (now (inner .entry)) (now («inner_names» .entry)) (now («inner_ends» .entry))) (now (result .entry)) (now (added .entry)) m (now (result .exit)) (now (added .exit))) composedOut r ⌝ }
 {
     composed_out(compose::compose(
         outer,
@@ -222,7 +252,7 @@ pub extern "C" fn pgk_name_of(
     added: &[u32],
     id: u32,
 ) -> NameOut
-    ensures { λ r. ⌜ r ≡ nameOut (placeOf (record { text = now («inner_names» .entry); ends = now («inner_ends» .entry) }) (record { text = now («outer_names» .entry); ends = now («outer_ends» .entry) }) (now (added .entry)) id) ⌝ }
+    ensures { λ r. ⌜ r ≡ nameOut (placeOf (nameList (now («inner_names» .entry)) (now («inner_ends» .entry))) (nameList (now («outer_names» .entry)) (now («outer_ends» .entry))) (now (added .entry)) id) ⌝ }
 {
     name_out(names::name_place(inner_names, inner_ends, outer_names, outer_ends, added, id))
 }

@@ -1,17 +1,17 @@
 -- Each way in which the test of one token ends, and the loop over the tokens. Assumes nothing.
-use mathlib.Core.Path.{_≡_, sym, _∙_, ap}
+use mathlib.Core.Path.{_≡_, refl, sym, _∙_, ap}
 use mathlib.Core.Bool.{Bool, true, false, not}
-use mathlib.Core.List.{List, _∷_}
-use Prim.Native.Nat.{ℕ, _+_, _-_, _<_, _≤_}
+use mathlib.Core.List.{List, [], _∷_}
+use Prim.Native.Nat.{ℕ, suc, _+_, _-_, _^_, _<_, _≤_}
 use native.Mathlib.Omega.{arith}
 use lib.Dec.{eqb}
-use lib.ListN.{length}
-use borrow.Author.Tests.{eq-eqb, ne-eqb, le-leb, lt-leb, not-true, not-false}
+use lib.ListN.{length, getD}
+use borrow.Author.Tests.{lt-ltb, eq-eqb, ne-eqb, le-leb, lt-leb, not-true, not-false}
 use Rattle.list.specs.Pick.{pick}
 use Rattle.token.specs.Table.{noId, isNone, places, badTable, tokenAt, tokensFrom}
 use Rattle.token.specs.declared.Token.{Token}
 use Rattle.token.proofs.Laws.{tokens-step, tokens-none}
-use Rattle.premises.specs.Premises.{idWithin, follows, follow, decides}
+use Rattle.premises.specs.Premises.{idWithin, follows, follow, decides, fits32, Decides}
 
 module _ (sources names line srcLine srcCol : ℕ) (t : Token) where
   abbrev Follows : Bool → Type 0
@@ -88,3 +88,16 @@ module _ (table : List ℕ) (sources names i line srcLine srcCol : ℕ) (p : Pas
         → Passing table sources names (i + 1) (t .«dst_line») l c
     unfolding follow
     goes-on q l c el ec = record { is = step ∙ rw (← er, not-false r q, ← el, ← ec) }
+
+-- ---- every number of a lent table is one of 32 bits
+fits-all : (xs : List ℕ) → ((i : ℕ) → getD xs i 0 < 2 ^ 32) → fits32 xs ≡ true
+unfolding fits32
+fits-all [] h = refl
+fits-all (x ∷ xs) h = rw (lt-ltb x (2 ^ 32) (h 0)) (fits-all xs (λ i. h (suc i)))
+
+-- no, and yes
+pub says-no : (table : List ℕ) (sources names : ℕ) → false ≡ decides table sources names → Decides table sources names false
+says-no table sources names e = record { says = e; sound = λ q. (let z : _≡_ {A = ℕ} 0 1 = cc in absurd (omega arith)) }
+
+pub says-yes : (table : List ℕ) (sources names : ℕ) → ((i : ℕ) → getD table i 0 < 2 ^ 32) → true ≡ decides table sources names → Decides table sources names true
+says-yes table sources names h e = record { says = e; sound = λ q. record { meets = sym e; fits = fits-all table h } }

@@ -3,7 +3,7 @@ use mathlib.Core.Path.{_≡_, sym, _∙_}
 use mathlib.Core.Bool.{Bool}
 use mathlib.Core.List.{List}
 use Prim.Native.Nat.{ℕ}
-use Rattle.premises.specs.Premises.{decides}
+use Rattle.premises.specs.Premises.{Decides}
 
-pub one-answer : (table : List ℕ) (sources names : ℕ) (a b : Bool) → a ≡ decides table sources names → b ≡ decides table sources names → a ≡ b
-one-answer table sources names a b e f = e ∙ sym f
+pub one-answer : (table : List ℕ) (sources names : ℕ) (a b : Bool) → Decides table sources names a → Decides table sources names b → a ≡ b
+one-answer table sources names a b e f = e .says ∙ sym (f .says)

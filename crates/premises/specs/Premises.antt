@@ -1,7 +1,8 @@
--- Demand 3's premises on a token table, as a test that computes. Assumes nothing.
+-- docs/RULES.md, Demands: demand 3's premises on a token table, as a test that computes. Assumes nothing.
+use mathlib.Core.Path.{_≡_}
 use mathlib.Core.Bool.{Bool, true, false}
 use mathlib.Core.List.{List, [], _∷_}
-use Prim.Native.Nat.{ℕ}
+use Prim.Native.Nat.{ℕ, _^_}
 use lib.Dec.{eqb, leb, ltb}
 use lib.ListN.{length}
 use Rattle.list.specs.Pick.{pick, both}
@@ -38,3 +39,18 @@ premises sources names ts = follow sources names 0 0 0 ts
 -- the test's answer: a bad table meets them not
 unfoldable pub decides : List ℕ → ℕ → ℕ → Bool
 decides table sources names = pick (badTable (length table)) false (premises sources names (tokensOf table))
+
+-- every number is one of 32 bits, as every number of a lent table is
+unfoldable pub fits32 : List ℕ → Bool
+fits32 [] = true
+fits32 (x ∷ xs) = both (ltb x (2 ^ 32)) (fits32 xs)
+
+-- a table that surely reads back as it was written
+pub record SoundTable (sources names : ℕ) (xs : List ℕ) : Type 0 where
+  pub meets : decides xs sources names ≡ true
+  pub fits : fits32 xs ≡ true
+
+-- the test's answer, and what a yes is good for
+pub record Decides (table : List ℕ) (sources names : ℕ) (r : Bool) : Type 0 where
+  pub says : r ≡ decides table sources names
+  pub sound : r ≡ true → SoundTable sources names table

@@ -3,7 +3,7 @@ use token::Token;
 ghost use mathlib.Core.Path.{_≡_};
 ghost use Rattle.list.specs.Pick.{pick};
 ghost use Rattle.token.specs.Table.{isNone};
-ghost use Rattle.premises.specs.Premises.{idWithin, follows, decides};
+ghost use Rattle.premises.specs.Premises.{idWithin, follows, Decides};
 
 // An id is none or below its count.
 fn id_within(count: u32, id: u32) -> bool
@@ -51,8 +51,9 @@ fn latest(source_id: u32, before: u32, own: u32) -> u32
     }
 }
 
+// Yes exactly for a table that meets them; what is then written surely reads back.
 pub fn meets_premises(table: &[u32], sources: u32, names: u32) -> bool
-    ensures { λ r. ⌜ r ≡ decides (now (table .entry)) sources names ⌝ }
+    ensures { λ r. ⌜ Decides (now (table .entry)) sources names r ⌝ }
 {
     if token::bad_table(table.len()) {
         return false;

@@ -1,6 +1,6 @@
--- What the library owes, by name, each put together from the laws of the parts. Assumes nothing.
+-- docs/RULES.md, Demands: what the library owes, by name, each put together from the laws of the parts. Assumes nothing.
 --
--- Demand 1: every entry takes every input and returns; bad input gets the refusal that document 01 names. Each entry's contract, which
+-- Demand 1: every entry takes every input and returns; bad input gets the refusal that the rules name. Each entry's contract, which
 -- the gate proves of its code with nothing asked of the caller, gives the complete answer; the theorems here say that each contract
 -- leaves one answer and one content of everything lent.
 -- Demand 2: the answers are those of the definitions, and the definitions give the worked texts (Worked.antt).
@@ -11,47 +11,53 @@ use Prim.Native.Nat.{ℕ}
 use Rattle.token.specs.declared.Token.{Token}
 use Rattle.token.specs.declared.TokenChunk.{TokenChunk}
 use Rattle.value.specs.declared.Mode.{Mode}
+use Rattle.decode.specs.Mapping.{Decodes}
 use Rattle.decode.proofs.Unique as decode
+use Rattle.table_size.specs.Size.{NeverFull}
+use Rattle.table_size.proofs.Enough as size
+use Rattle.encode.specs.Encode.{Encodes}
 use Rattle.encode.proofs.Unique as encode
+use Rattle.translate.specs.Translate.{Translates}
 use Rattle.translate.proofs.Whole as translate
 use Rattle.records.specs.declared.Answer.{Answer}
 use Rattle.records.specs.Records.{TranslatesRecords, answerOf}
 use Rattle.records.proofs.Laws as records
-use Rattle.lookup.specs.declared.Found.{Found}
-use Rattle.lookup.specs.Lookup.{foundCode, foundNumber}
+use Rattle.lookup.specs.Lookup.{Looks}
 use Rattle.lookup.proofs.Best as lookup
 use Rattle.names.specs.Names.{NameList, placeOf}
-use Rattle.compose.specs.Compose.{Maps}
+use Rattle.compose.specs.Compose.{Maps, Composes}
 use Rattle.compose.proofs.Unique as compose
+use Rattle.premises.specs.Premises.{Decides}
+use Rattle.premises.proofs.Unique as premises
 use Rattle.peghayrick.specs.declared.DecodedOut.{DecodedOut}
 use Rattle.peghayrick.specs.declared.EncodedOut.{EncodedOut}
 use Rattle.peghayrick.specs.declared.ComposedOut.{ComposedOut}
 use Rattle.peghayrick.specs.declared.NameOut.{NameOut}
-use Rattle.peghayrick.specs.Exports.{decodedOut, DecodesOut, encodedOut, EncodesOut, TranslatesOut, LooksOut, composedOut, ComposesOut, nameOut}
-use Rattle.round.specs.Demand3.{ChunksJoin, RoundTrip, LenientRoundTrip, TableRoundTrip, WriteAndRead, CutAndRead, OneText}
+use Rattle.peghayrick.specs.Exports.{Goes, flag, decodedOut, encodedOut, foundOut, composedOut, nameOut}
+use Rattle.round.specs.Demand3.{ChunksJoin, WriteAndRead, CutAndRead, SurelyReadsBack, OneText}
 use Rattle.round.proofs.Demand3 as round
 
 -- ---- demand 1: each exported entry has one answer, and leaves one content of what is lent
 
 -- pgk_decode, pgk_decode_lenient, pgk_decode_checked
 pub one-decode : (mode : Mode) (sources names : ℕ) (text table : List ℕ) (r s : DecodedOut) (x y : List ℕ)
-    → DecodesOut mode sources names text table r x → DecodesOut mode sources names text table s y → (r ≡ s) × (x ≡ y)
+    → Goes (λ d. Decodes mode sources names text table d x) decodedOut r → Goes (λ d. Decodes mode sources names text table d y) decodedOut s → (r ≡ s) × (x ≡ y)
 one-decode mode sources names text table r s x y a b =
-    let e = decode.one-decode mode sources names text table (a .inner) (b .inner) x y (a .decodes) (b .decodes) in
+    let e = decode.one-decode mode sources names text table (a .inner) (b .inner) x y (a .holds) (b .holds) in
     (a .says ∙ ap decodedOut (e .0) ∙ sym (b .says), e .1)
 
 -- pgk_encode
 pub one-encode : (table : List ℕ) (c : TokenChunk) (out : List ℕ) (r s : EncodedOut) (x y : List ℕ)
-    → EncodesOut table c out r x → EncodesOut table c out s y → (r ≡ s) × (x ≡ y)
+    → Goes (λ e. Encodes table c out e x) encodedOut r → Goes (λ e. Encodes table c out e y) encodedOut s → (r ≡ s) × (x ≡ y)
 one-encode table c out r s x y a b =
-    let e = encode.one-answer table c out (a .inner) (b .inner) x y (a .encodes) (b .encodes) in
+    let e = encode.one-answer table c out (a .inner) (b .inner) x y (a .holds) (b .holds) in
     (a .says ∙ ap encodedOut (e .0) ∙ sym (b .says), e .1)
 
 -- pgk_translate
 pub one-translate : (line source name : ℕ) (table : List ℕ) (r s : Answer) (x y : List ℕ)
-    → TranslatesOut line source name table r x → TranslatesOut line source name table s y → (r ≡ s) × (x ≡ y)
+    → Goes (λ c. Translates line source name table c x) answerOf r → Goes (λ c. Translates line source name table c y) answerOf s → (r ≡ s) × (x ≡ y)
 one-translate line source name table r s x y a b =
-    let e = translate.one-answer (a .translates) (b .translates) in
+    let e = translate.one-answer (a .holds) (b .holds) in
     (a .says ∙ ap answerOf (e .0) ∙ sym (b .says), e .1)
 
 -- pgk_translate_tokens
@@ -60,16 +66,15 @@ pub one-translate-tokens : (line source name : ℕ) (ts : List Token) (r s : Ans
 one-translate-tokens line source name ts r s x y a b = records.one-answer a b
 
 -- pgk_lookup
-pub one-lookup : (table : List ℕ) (line col : ℕ) (r s : Answer) → LooksOut table line col r → LooksOut table line col s → r ≡ s
+pub one-lookup : (table : List ℕ) (line col : ℕ) (r s : Answer) → Goes (Looks table line col) foundOut r → Goes (Looks table line col) foundOut s → r ≡ s
 one-lookup table line col r s a b =
-    let e = lookup.one-answer table line col (a .inner) (b .inner) (a .looks) (b .looks) in
-    a .says ∙ ap {B = Answer} (λ (f : Found). record { code = foundCode f; number = foundNumber f }) e ∙ sym (b .says)
+    a .says ∙ ap foundOut (lookup.one-answer table line col (a .inner) (b .inner) (a .holds) (b .holds)) ∙ sym (b .says)
 
 -- pgk_compose
 pub one-compose : (m : Maps) (result added : List ℕ) (r s : ComposedOut) (x y v w : List ℕ)
-    → ComposesOut m result added r x v → ComposesOut m result added s y w → (r ≡ s) × ((x ≡ y) × (v ≡ w))
+    → Goes (λ o. Composes m result added o x v) composedOut r → Goes (λ o. Composes m result added o y w) composedOut s → (r ≡ s) × ((x ≡ y) × (v ≡ w))
 one-compose m result added r s x y v w a b =
-    let e = compose.one-answer m result added (a .inner) (b .inner) x v y w (a .composes) (b .composes) in
+    let e = compose.one-answer m result added (a .inner) (b .inner) x v y w (a .holds) (b .holds) in
     (a .says ∙ ap composedOut (e .0) ∙ sym (b .says), e .1)
 
 -- pgk_name_of
@@ -77,27 +82,33 @@ pub one-name : (inner outer : NameList) (added : List ℕ) (id : ℕ) (r s : Nam
     → r ≡ nameOut (placeOf inner outer added id) → s ≡ nameOut (placeOf inner outer added id) → r ≡ s
 one-name inner outer added id r s a b = a ∙ sym b
 
+-- pgk_meets_premises
+pub one-meets : (table : List ℕ) (sources names r s : ℕ) → Goes (Decides table sources names) flag r → Goes (Decides table sources names) flag s → r ≡ s
+one-meets table sources names r s a b =
+    a .says ∙ ap flag (premises.one-answer table sources names (a .inner) (b .inner) (a .holds) (b .holds)) ∙ sym (b .says)
+
+-- pgk_version and pgk_table_size answer by an equation; a table of the size that pgk_table_size answers is never full
+pub never-full : NeverFull
+never-full = size.never
+
 -- ---- demand 3
 
--- wherever a table is cut, joined bytes and end state are those of one call
+-- wherever a table is cut, it is written as one call would write it
 pub chunks-join : ChunksJoin
 chunks-join = round.chunks-join
 
--- lenient decoding of what is written gives the table
-pub lenient-round-trip : LenientRoundTrip
-lenient-round-trip = round.lenient-round-trip
-
--- checked decoding too, where checked mode takes every value that is written
-pub checked-round-trip : RoundTrip Mode.Checked
-checked-round-trip = round.checked-round-trip
-
--- by the entries' contracts: a table written whole, or in any chunks, and decoded is itself again
-pub write-and-read : (mode : Mode) → WriteAndRead mode
+-- a table that meets the premises, written whole, or in any chunks, and decoded is itself again: in lenient mode, and in checked mode
+-- where that takes every value that is written
+pub write-and-read : WriteAndRead
 write-and-read = round.write-and-read
 
-pub cut-and-read : (mode : Mode) → CutAndRead mode
+pub cut-and-read : CutAndRead
 cut-and-read = round.cut-and-read
 
--- two different tables never make the same text
+-- so where `meets_premises` says yes, what is written surely reads back
+pub surely-reads-back : SurelyReadsBack
+surely-reads-back = round.surely-reads-back
+
+-- two different tables never make the same text, each cut as it likes
 pub one-text : OneText
 one-text = round.one-text

@@ -1,4 +1,4 @@
--- Document 01, "Worked texts": the marked rows, as one table, and that the definitions give each row, in both modes. Assumes nothing.
+-- docs/RULES.md, Worked texts: the marked rows, as one table, and that the definitions give each row, in both modes. Assumes nothing.
 use mathlib.Core.Path.{_≡_, refl}
 use mathlib.Core.List.{List, [], _∷_}
 use Prim.Native.Nat.{ℕ}
@@ -8,7 +8,9 @@ use Rattle.token.specs.declared.Token.{Token}
 use Rattle.digits.specs.Digits.{digitOf, isDelim}
 use Rattle.value.specs.Value.{valueOf}
 use Rattle.value.specs.declared.Mode.{Mode}
-use Rattle.vlq.specs.Vlq.{digitsFrom, vlqOf}
+use lib.IntN.{negsuc}
+use Rattle.vlq.specs.Vlq.{digitsFrom, vlqOf, vlqAt}
+use Rattle.vlq.specs.declared.Vlq.{Vlq}
 use Rattle.segment.specs.Segment.{fieldsFrom}
 use Rattle.sums.specs.Sums.{reducedOf, sumOf, idOf, nameSumOf}
 use Rattle.apply.specs.Apply.{columned, mapped, named, four, five, counted, applied}
@@ -26,51 +28,56 @@ pub record Row : Type 0 where
   pub lenient : Out
   pub checked : Out
 
-abbrev row : List ℕ → ℕ → ℕ → Out → Out → Row
-row text sources names lenient checked = record { text = text; sources = sources; names = names; lenient = lenient; checked = checked }
+abbrev rowOf : List ℕ → ℕ → ℕ → Out → Out → Row
+rowOf text sources names lenient checked = record { text = text; sources = sources; names = names; lenient = lenient; checked = checked }
 
-abbrev both : List ℕ → ℕ → ℕ → Out → Row
-both text sources names o = row text sources names o o
+abbrev alike : List ℕ → ℕ → ℕ → Out → Row
+alike text sources names o = rowOf text sources names o o
 
 abbrev pub worked : List Row
 worked =
     -- empty: no tokens
-    both ([]) 0 0 (out [] Code.Done 0) ∷
+    alike ([]) 0 0 (out [] Code.Done 0) ∷
     -- `A`: 0 0 0 0 none none
-    both (65 ∷ []) 0 0 (out (token 0 0 0 0 noId noId ∷ []) Code.Done 1) ∷
+    alike (65 ∷ []) 0 0 (out (token 0 0 0 0 noId noId ∷ []) Code.Done 1) ∷
     -- `AAAA`: 4 with 0
-    both (65 ∷ 65 ∷ 65 ∷ 65 ∷ []) 0 0 (out [] (Code.BadSourceReference 0) 0) ∷
+    alike (65 ∷ 65 ∷ 65 ∷ 65 ∷ []) 0 0 (out [] (Code.BadSourceReference 0) 0) ∷
     -- `ACAA`: 4 with 0, not 1
-    both (65 ∷ 67 ∷ 65 ∷ 65 ∷ []) 1 0 (out [] (Code.BadSourceReference 0) 0) ∷
+    alike (65 ∷ 67 ∷ 65 ∷ 65 ∷ []) 1 0 (out [] (Code.BadSourceReference 0) 0) ∷
     -- `AAAAD`: 5 with 4294967295; checked 6 with 4
-    row (65 ∷ 65 ∷ 65 ∷ 65 ∷ 68 ∷ []) 1 1 (out [] (Code.BadNameReference 4294967295) 0) (out [] (Code.WideValue 4) 0) ∷
+    rowOf (65 ∷ 65 ∷ 65 ∷ 65 ∷ 68 ∷ []) 1 1 (out [] (Code.BadNameReference 4294967295) 0) (out [] (Code.WideValue 4) 0) ∷
     -- `DAA`: 3 with 0
-    both (68 ∷ 65 ∷ 65 ∷ []) 1 0 (out [] (Code.BadSegmentSize 0) 0) ∷
+    alike (68 ∷ 65 ∷ 65 ∷ []) 1 0 (out [] (Code.BadSegmentSize 0) 0) ∷
     -- `AAA`: 3 with 3
-    both (65 ∷ 65 ∷ 65 ∷ []) 1 0 (out [] (Code.BadSegmentSize 3) 0) ∷
+    alike (65 ∷ 65 ∷ 65 ∷ []) 1 0 (out [] (Code.BadSegmentSize 3) 0) ∷
     -- `+/////H`: column 4294967295, both modes
-    both (43 ∷ 47 ∷ 47 ∷ 47 ∷ 47 ∷ 47 ∷ 72 ∷ []) 0 0 (out (token 0 4294967295 0 0 noId noId ∷ []) Code.Done 7) ∷
+    alike (43 ∷ 47 ∷ 47 ∷ 47 ∷ 47 ∷ 47 ∷ 72 ∷ []) 0 0 (out (token 0 4294967295 0 0 noId noId ∷ []) Code.Done 7) ∷
     -- six `g`, `I`: column 0; checked 6 with 0
-    row (103 ∷ 103 ∷ 103 ∷ 103 ∷ 103 ∷ 103 ∷ 73 ∷ []) 0 0 (out (token 0 0 0 0 noId noId ∷ []) Code.Done 7) (out [] (Code.WideValue 0) 0) ∷
+    rowOf (103 ∷ 103 ∷ 103 ∷ 103 ∷ 103 ∷ 103 ∷ 73 ∷ []) 0 0 (out (token 0 0 0 0 noId noId ∷ []) Code.Done 7) (out [] (Code.WideValue 0) 0) ∷
     -- twelve `g`, `A`: column 0
-    both (103 ∷ 103 ∷ 103 ∷ 103 ∷ 103 ∷ 103 ∷ 103 ∷ 103 ∷ 103 ∷ 103 ∷ 103 ∷ 103 ∷ 65 ∷ []) 0 0 (out (token 0 0 0 0 noId noId ∷ []) Code.Done 13) ∷
+    alike (103 ∷ 103 ∷ 103 ∷ 103 ∷ 103 ∷ 103 ∷ 103 ∷ 103 ∷ 103 ∷ 103 ∷ 103 ∷ 103 ∷ 65 ∷ []) 0 0 (out (token 0 0 0 0 noId noId ∷ []) Code.Done 13) ∷
     -- thirteen `g`, `A`: 2
-    both (103 ∷ 103 ∷ 103 ∷ 103 ∷ 103 ∷ 103 ∷ 103 ∷ 103 ∷ 103 ∷ 103 ∷ 103 ∷ 103 ∷ 103 ∷ 65 ∷ []) 0 0 (out [] Code.VlqOverflow 0) ∷
+    alike (103 ∷ 103 ∷ 103 ∷ 103 ∷ 103 ∷ 103 ∷ 103 ∷ 103 ∷ 103 ∷ 103 ∷ 103 ∷ 103 ∷ 103 ∷ 65 ∷ []) 0 0 (out [] Code.VlqOverflow 0) ∷
     -- `!A`: value -15, so 3 with 0
-    both (33 ∷ 65 ∷ []) 0 0 (out [] (Code.BadSegmentSize 0) 0) ∷
+    alike (33 ∷ 65 ∷ []) 0 0 (out [] (Code.BadSegmentSize 0) 0) ∷
     -- `AAEG;C`: 0 0 2 3 0 none; 1 1 2 3 none none
-    both (65 ∷ 65 ∷ 69 ∷ 71 ∷ 59 ∷ 67 ∷ []) 1 0 (out (token 0 0 2 3 0 noId ∷ token 1 1 2 3 noId noId ∷ []) Code.Done 6) ∷
+    alike (65 ∷ 65 ∷ 69 ∷ 71 ∷ 59 ∷ 67 ∷ []) 1 0 (out (token 0 0 2 3 0 noId ∷ token 1 1 2 3 noId noId ∷ []) Code.Done 6) ∷
     []
 
 -- the definitions give the row
-abbrev pub Gives : Row → Type 0
-Gives r = (decoded Mode.Lenient (r .sources) (r .names) (r .text) 2 ≡ r .lenient) × (decoded Mode.Checked (r .sources) (r .names) (r .text) 2 ≡ r .checked)
+abbrev pub Holds : Row → Type 0
+Holds r = (decoded Mode.Lenient (r .sources) (r .names) (r .text) 2 ≡ r .lenient) × (decoded Mode.Checked (r .sources) (r .names) (r .text) 2 ≡ r .checked)
 
 abbrev pub Each : List Row → Type 0
 Each [] = Unit {0}
-Each (r ∷ rs) = Gives r × Each rs
+Each (r ∷ rs) = Holds r × Each rs
 
 pub worked-texts : Each worked
 unfolding digitOf isDelim valueOf digitsFrom vlqOf fieldsFrom reducedOf sumOf idOf nameSumOf columned mapped named four five counted applied offsetOf segmentStep stepFrom run
 worked-texts =
     ((refl, refl), ((refl, refl), ((refl, refl), ((refl, refl), ((refl, refl), ((refl, refl), ((refl, refl), ((refl, refl), ((refl, refl), ((refl, refl), ((refl, refl), ((refl, refl), ((refl, refl), tt)))))))))))))
+
+-- `!A`: the bytes read as 63 and 0, so the number is 31, and the value -15 in both modes
+pub value-of-a-bad-byte : (vlqAt (33 ∷ 65 ∷ []) 0 ≡ Vlq.Value 31 0 2) × ((valueOf Mode.Lenient 31 0 ≡ negsuc 14) × (valueOf Mode.Checked 31 0 ≡ negsuc 14))
+unfolding digitOf isDelim valueOf digitsFrom vlqOf
+value-of-a-bad-byte = (refl, (refl, refl))

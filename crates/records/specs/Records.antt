@@ -1,4 +1,4 @@
--- Document 01, "Translating", over a lent slice of token records. Assumes nothing.
+-- docs/RULES.md, Translating, over a lent slice of token records. Assumes nothing.
 use mathlib.Core.Path.{_≡_}
 use mathlib.Core.List.{List}
 use Prim.Native.Nat.{ℕ}

@@ -1,15 +1,15 @@
 -- The bytes and the end state of a list in pieces, and of a table in successive calls. Assumes nothing.
-use mathlib.Core.Path.{_≡_, refl, _∙_, ap, ap₂}
+use mathlib.Core.Path.{_≡_, refl, _∙_, ap, ap₂, subst}
 use mathlib.Core.Bool.{Bool, true, false}
 use mathlib.Core.List.{List, [], _∷_, _++_}
 use mathlib.Core.Option.{Option, none, some}
 use Prim.Native.Nat.{ℕ, suc, _+_, _-_, _≤_}
 use native.Mathlib.Omega.{arith}
 use native.Mathlib.Nat.{add-zero}
-use lib.Dec.{eqb, ltb, leb}
+use lib.Dec.{eqb, ltb}
 use lib.ListN.{length, take, drop}
 use lib.Seq.{take-append-seam}
-use borrow.Author.Tests.{le-ltb, leb-true}
+use borrow.Author.Tests.{le-ltb}
 use Rattle.list.specs.Pick.{pick}
 use Rattle.list.specs.Memory.{onto}
 use Rattle.code.specs.declared.Code.{Code}
@@ -19,11 +19,10 @@ use Rattle.token.specs.declared.TokenChunk.{TokenChunk}
 use Rattle.token.proofs.Laws.{length-tokens, tokens-add, tokens-none}
 use Rattle.encode.specs.declared.Encoded.{Encoded}
 use Rattle.chunk.proofs.Lists.{written-append, endOf-append}
-use Rattle.chunk.specs.Chunk.{baseOf, fieldsOf, bytesOf, after, written, endOf, firstBack}
-use Rattle.encode.specs.Encode.{tokensIn, bytesIn, badChunk, nextChunk, givenBack, unlessBack, encoded, Encodes}
-use Rattle.round.specs.Terms.{fresh, textOf}
-use Rattle.round.specs.Chunks.{Call, upTo, whole, isDone, wroteBy, Joined, calls, callsOn, rising, lastEnd, roomy, Cuts}
-use Rattle.list.proofs.Pick.{both-true}
+use Rattle.chunk.specs.Chunk.{withEnds, baseOf, fieldsOf, bytesOf, after, written, endOf, firstBack}
+use Rattle.encode.specs.Encode.{tokensIn, bytesIn, nextChunk, encoded, Encodes}
+use Rattle.round.specs.Terms.{fresh, whole, Call, Called, Cut, joined, lastState, AllDone}
+use Rattle.round.proofs.Round.{textOf}
 
 -- ---- lists
 
@@ -50,7 +49,7 @@ back-append i p (t ∷ a) b e = by-line (ltb (t .«dst_line») (p .«prev_dst_li
 
 -- ---- where a chunk starts and ends plays no part in what is written
 abbrev pub spanned : ℕ → ℕ → TokenChunk → TokenChunk
-spanned start end p = upTo end (nextChunk start p)
+spanned start end p = withEnds start end p
 
 after-spanned : (s e : ℕ) (p : TokenChunk) (t : Token) → after (spanned s e p) t ≡ spanned s e (after p t)
 unfolding after
@@ -80,34 +79,16 @@ unfolding encoded
 done-call table c room g s e f r =
     rw (g, le-ltb (c .end) (c .start) s, le-ltb (places (length table)) (c .end) e, f, le-ltb room (length (bytesIn table c)) r)
 
+-- ---- the bytes that a call which is done hands over, of those that are lent to it
+module _ (table : List ℕ) (c : TokenChunk) (out : List ℕ) (r : Encoded) (out′ : List ℕ) (w : Encodes table c out r out′) (next : TokenChunk)
+    (e : encoded table c (length out) ≡ record { code = Code.Done; bytes = length (bytesIn table c); next = next }) where
+  pub handed : take (r .bytes) out′ ≡ bytesIn table c
+  unfolding onto
+  handed =
+      let o : out′ ≡ bytesIn table c ++ drop (length (bytesIn table c)) out = rw e at (w .wrote) in
+      rw (w .says ∙ e, o) (take-append-seam (bytesIn table c) (drop (length (bytesIn table c)) out))
+
 -- ---- successive calls
-rising-cons : (from : ℕ) (k : Call) (ks : List Call) → rising from (k ∷ ks) ≡ true → (from ≤ k .end) × (rising (k .end) ks ≡ true)
-unfolding rising
-rising-cons from k ks h = let r = both-true (leb from (k .end)) _ h in (leb-true from (k .end) (r .0), r .1)
-
-last-above : (from : ℕ) (ks : List Call) → rising from ks ≡ true → from ≤ lastEnd from ks
-unfolding rising lastEnd
-last-above from [] h = omega arith
-last-above from (k ∷ ks) h =
-    let r = rising-cons from k ks h in
-    omega (arith, r .0, last-above (k .end) ks (r .1))
-
-abbrev doneWith : List ℕ → Joined → Joined
-doneWith w j = record { done = j .done; bytes = w ++ j .bytes; next = j .next }
-
-calls-done : (table : List ℕ) (c : TokenChunk) (k : Call) (ks : List Call) (n : ℕ) (next : TokenChunk)
-    → encoded table (upTo (k .end) c) (k .room) ≡ record { code = Code.Done; bytes = n; next = next }
-    → calls table c (k ∷ ks) ≡ doneWith (bytesIn table (upTo (k .end) c)) (calls table next ks)
-unfolding calls
-calls-done table c k ks n next e = rw e
-
-roomy-done : (table : List ℕ) (c : TokenChunk) (k : Call) (ks : List Call) → roomy table c (k ∷ ks) ≡ true
-    → (length (bytesIn table (upTo (k .end) c)) ≤ k .room) × (roomy table (encoded table (upTo (k .end) c) (k .room) .next) ks ≡ true)
-unfolding roomy
-roomy-done table c k ks h =
-    let r = both-true (leb (length (bytesIn table (upTo (k .end) c))) (k .room)) _ h in
-    (leb-true (length (bytesIn table (upTo (k .end) c))) (k .room) (r .0), r .1)
-
 module _ (table : List ℕ) (g : badTable (length table) ≡ false) where
   -- the tokens from the i-th on
   abbrev rest : ℕ → List Token
@@ -119,37 +100,45 @@ module _ (table : List ℕ) (g : badTable (length table) ≡ false) where
       let m : i + (e - i) ≡ e = omega arith in
       ap (tokensFrom table i) n ∙ tokens-add table i (e - i) (places (length table) - e) ∙ rw m
 
-  calls-from : (ks : List Call) (i : ℕ) (p : TokenChunk) → rising i ks ≡ true → lastEnd i ks ≡ places (length table) → roomy table (nextChunk i p) ks ≡ true
-      → firstBack i (p .«prev_dst_line») (rest i) ≡ none
-      → calls table (nextChunk i p) ks
-      ≡ record { done = true; bytes = written i p (rest i); next = nextChunk (places (length table)) (endOf p (rest i)) }
-  unfolding calls lastEnd written endOf
-  calls-from [] i p r l w f =
+  -- what the calls from the i-th token on come to, after the state p
+  pub record Joins (i : ℕ) (p : TokenChunk) (ks : List Call) : Type 0 where
+    pub done : AllDone ks
+    pub bytes : joined ks ≡ written i p (rest i)
+    pub last : lastState (nextChunk i p) ks ≡ nextChunk (places (length table)) (endOf p (rest i))
+
+  joins : (ks : List Call) (i : ℕ) (p : TokenChunk) → Cut table (nextChunk i p) ks → firstBack i (p .«prev_dst_line») (rest i) ≡ none → Joins i p ks
+  unfolding Cut AllDone joined lastState written endOf
+  joins [] i p u f =
+      let n : i ≡ places (length table) = u in
       let z : rest i ≡ [] = tokens-none table i (places (length table)) (omega arith) in
-      rw (z, ← l)
-  calls-from (k ∷ ks) i p r l w f =
-      let (low, r′) = rising-cons i k ks r in
-      let high : k .end ≤ places (length table) = omega (arith, last-above (k .end) ks r′) in
+      record { done = tt; bytes = rw z; last = rw (z, ← n) }
+  joins (k ∷ ks) i p u f =
+      let m : Called table (nextChunk i p) k = u .0 in
       let a : List Token = tokensFrom table i (k .end - i) in
       let q : TokenChunk = spanned i (k .end) p in
-      let (room, w′) = roomy-done table (nextChunk i p) k ks w in
-      let c : rest i ≡ a ++ rest (k .end) = rest-cut i (k .end) low high in
-      let n : i + length a ≡ k .end = omega (arith, length-tokens table i (k .end - i)) in
+      let c : rest i ≡ a ++ rest (k .end) = rest-cut i (k .end) (m .order) (m .within) in
+      let n : i + length a ≡ k .end = omega (arith, length-tokens table i (k .end - i), m .order) in
       let (f₁, f₂) = back-append i p a (rest (k .end)) (rw c at f) in
-      let e = done-call table q (k .room) g low high f₁ room in
-      let e′ : nextChunk (k .end) (endOf q a) ≡ nextChunk (k .end) (endOf p a) = ap (nextChunk (k .end)) (end-spanned i (k .end) p a) in
-      let b : written i q a ≡ written i p a = written-spanned i i (k .end) p a in
-      calls-done table (nextChunk i p) k ks (length (bytesIn table q)) (nextChunk (k .end) (endOf q a)) e
-      ∙ ap (λ (x : TokenChunk). doneWith (written i q a) (calls table x ks)) e′
-      ∙ ap (doneWith (written i q a)) (calls-from ks (k .end) (endOf p a) r′ l (rw (e, e′) at w′) (rw n at f₂))
-      ∙ rw (b, c, written-append i p a (rest (k .end)), n, endOf-append)
+      let e = done-call table q (length (k .out)) g (m .order) (m .within) f₁ (m .room) in
+      let r = m .meets .says ∙ e in
+      let x : k .answer .next ≡ nextChunk (k .end) (endOf p a)
+      = ap (λ (z : Encoded). z .next) r ∙ ap (nextChunk (k .end)) (end-spanned i (k .end) p a) in
+      let h : take (k .answer .bytes) (k .out′) ≡ written i p a
+      = handed table q (k .out) (k .answer) (k .out′) (m .meets) (nextChunk (k .end) (endOf q a)) e ∙ written-spanned i i (k .end) p a in
+      let t = joins ks (k .end) (endOf p a) (subst (λ (z : TokenChunk). Cut table z ks) x (u .1)) (rw n at f₂) in
+      record {
+        done = (ap (λ (z : Encoded). z .code) r, t .done);
+        bytes = ap₂ _++_ h (t .bytes) ∙ rw (c, written-append i p a (rest (k .end)), n);
+        last = rw (x, c, endOf-append p a (rest (k .end))) (t .last);
+      }
 
-  pub calls-whole : (ks : List Call) → firstBack 0 0 (tokensOf table) ≡ none → Cuts table ks
-      → callsOn table ks
-      ≡ record { done = true; bytes = textOf (tokensOf table); next = nextChunk (places (length table)) (endOf (fresh 0 0) (tokensOf table)) }
-  calls-whole ks f u =
+  pub joins-whole : (ks : List Call) → firstBack 0 0 (tokensOf table) ≡ none → Cut table (fresh 0 0) ks → Joins 0 (fresh 0 0) ks
+  joins-whole ks f u =
       let n : places (length table) - 0 ≡ places (length table) = omega arith in
-      calls-from ks 0 (fresh 0 0) (u .rises) (u .ends) (u .room) (rw n f) ∙ rw n
+      joins ks 0 (fresh 0 0) u (rw n f)
+
+  pub rest-whole : rest 0 ≡ tokensOf table
+  rest-whole = let n : places (length table) - 0 ≡ places (length table) = omega arith in rw n
 
 -- ---- one call over the whole table
 module _ (table : List ℕ) where
@@ -162,38 +151,13 @@ module _ (table : List ℕ) where
   whole-end : nextChunk (places (length table)) (endOf (whole table) (tokensIn table (whole table))) ≡ nextChunk (places (length table)) (endOf (fresh 0 0) (tokensOf table))
   whole-end = rw whole-tokens (ap (nextChunk (places (length table))) (end-spanned 0 (places (length table)) (fresh 0 0) (tokensOf table)))
 
-  pub whole-call : (room : ℕ) → badTable (length table) ≡ false → firstBack 0 0 (tokensOf table) ≡ none → length (textOf (tokensOf table)) ≤ room
+  pub whole-call : (room : ℕ) → badTable (length table) ≡ false → firstBack 0 0 (tokensOf table) ≡ none → length (bytesIn table (whole table)) ≤ room
       → encoded table (whole table) room
       ≡ record {
         code = Code.Done;
-        bytes = length (textOf (tokensOf table));
+        bytes = length (bytesIn table (whole table));
         next = nextChunk (places (length table)) (endOf (fresh 0 0) (tokensOf table));
       }
   whole-call room g f r =
-      done-call table (whole table) room g (omega arith) (omega arith) (rw whole-tokens f) (rw whole-bytes r)
-      ∙ ap₂ (λ (n : ℕ) (c : TokenChunk). record { code = Code.Done; bytes = n; next = c }) (ap length whole-bytes) whole-end
-
--- ---- the bytes that a call hands over, of those that are lent to it
-module _ (table : List ℕ) (c : TokenChunk) (out : List ℕ) where
-  abbrev Hands : Encoded → Type 0
-  Hands r = take (r .bytes) (pick (isDone r) (onto (bytesIn table c) out) out) ≡ pick (isDone r) (bytesIn table c) []
-
-  hands-by : (bad badC full : Bool) (o : Option ℕ)
-      → Hands (pick bad (givenBack c Code.BadTable)
-      (pick badC (givenBack c Code.BadChunk)
-      (unlessBack c o
-      (pick full (givenBack c (Code.NoRoom (length (bytesIn table c))))
-      (record { code = Code.Done; bytes = length (bytesIn table c); next = nextChunk (c .end) (endOf c (tokensIn table c)) })))))
-  unfolding onto
-  hands-by true badC full o = refl
-  hands-by false true full o = refl
-  hands-by false false full (some i) = refl
-  hands-by false false true none = refl
-  hands-by false false false none = take-append-seam (bytesIn table c) (drop (length (bytesIn table c)) out)
-
-  pub hands : (r : Encoded) (out′ : List ℕ) → Encodes table c out r out′ → take (r .bytes) out′ ≡ wroteBy table c (length out)
-  unfolding encoded
-  hands r out′ w =
-      ap₂ (λ (x : Encoded) (l : List ℕ). take (x .bytes) l) (w .says) (w .wrote)
-      ∙ hands-by (badTable (length table)) (badChunk table c) (ltb (length out) (length (bytesIn table c)))
-      (firstBack (c .start) (c .«prev_dst_line») (tokensIn table c))
+      done-call table (whole table) room g (omega arith) (omega arith) (rw whole-tokens f) r
+      ∙ ap (λ (c : TokenChunk). record { code = Code.Done; bytes = length (bytesIn table (whole table)); next = c }) whole-end

@@ -1,91 +1,91 @@
 -- Demand 3, each statement of specs/Demand3.antt proved. Assumes nothing.
 use mathlib.Core.Path.{_≡_, sym, _∙_, ap}
-use mathlib.Core.Bool.{true}
+use mathlib.Core.Bool.{true, false}
 use mathlib.Core.List.{List}
+use mathlib.Core.Option.{none}
 use Prim.Native.Nat.{ℕ, _+_, _≤_}
 use native.Mathlib.Omega.{arith}
 use lib.ListN.{length, take}
+use Rattle.list.specs.Memory.{onto}
 use Rattle.code.specs.declared.Code.{Code}
-use Rattle.token.specs.Table.{places, tokensOf, over}
+use Rattle.token.specs.Table.{places, badTable, tokensOf, flat, over}
 use Rattle.token.proofs.Laws.{length-tokens}
+use Rattle.token.proofs.Whole.{flat-tokens}
 use Rattle.value.specs.declared.Mode.{Mode}
-use Rattle.decode.specs.declared.Decoded.{Decoded}
-use Rattle.decode.specs.Mapping.{Out, answer, Decodes}
+use Rattle.decode.specs.Mapping.{Out, answer, decoded}
+use Rattle.chunk.specs.Chunk.{firstBack}
 use Rattle.encode.specs.declared.Encoded.{Encoded}
-use Rattle.round.specs.Terms.{SameTable, fresh, textOf, takesAll}
-use Rattle.round.specs.Chunks.{whole, Joined, callsOn}
-use Rattle.round.specs.Demand3.{SoundTable, PiecesJoin, FreshText, ChunksJoin, RoundTrip, LenientTakes, LenientRoundTrip, TableRoundTrip, TableIsTokens, WriteAndRead, CutAndRead, OneText, CallHandsOver}
-use Rattle.chunk.proofs.Lists.{written-append, endOf-append}
-use Rattle.round.proofs.Chunks.{written-spanned, calls-whole, whole-bytes, whole-call, hands}
-use Rattle.round.proofs.Round.{back, takes-all, sound-more, never-back, not-bad, sound-tokens}
-use Rattle.token.proofs.Whole.{flat-tokens, over-tokens}
-
-pub pieces-join : PiecesJoin
-pieces-join i p a b = (written-append i p a b, endOf-append p a b)
-
-pub fresh-text : FreshText
-fresh-text start end ts = written-spanned 0 start end (fresh 0 0) ts
+use Rattle.encode.specs.Encode.{bytesIn}
+use Rattle.premises.specs.Premises.{SoundTable}
+use Rattle.round.specs.Terms.{fresh, whole, Call, Cut, joined, AllDone, takesAll, Gives, ReadsBack}
+use Rattle.round.specs.Demand3.{ChunksJoin, WriteAndRead, CutAndRead, SurelyReadsBack, OneText}
+use Rattle.round.proofs.Chunks.{handed, joins-whole, rest-whole, whole-bytes, whole-call}
+use Rattle.round.proofs.Round.{textOf, back, takes-all, sound-more, never-back, not-bad, sound-tokens}
 
 pub chunks-join : ChunksJoin
-chunks-join table ks room g f u r =
-    let j = calls-whole table g ks f u in
-    let e = whole-call table room g f r in
+chunks-join table ks out e out′ g f u r w =
+    let j = joins-whole table g ks f u in
+    let q = whole-call table (length out) g f r in
+    let h = handed table (whole table) out e out′ w _ q in
+    let z = rest-whole table g in
     record {
-      done = ap (λ (x : Joined). x .done) j;
-      bytes = ap (λ (x : Joined). x .bytes) j ∙ sym (rw e (whole-bytes table));
-      next = ap (λ (x : Joined). x .next) j ∙ sym (ap (λ (x : Encoded). x .next) e);
+      done = j .done;
+      bytes = j .bytes ∙ rw z (sym (h ∙ whole-bytes table));
+      next = j .last ∙ rw z (sym (ap (λ (x : Encoded). x .next) (w .says ∙ q)));
     }
 
-pub call-hands-over : CallHandsOver
-call-hands-over = hands
+-- the text of a table's tokens, decoded
+gives : (mode : Mode) (sources names : ℕ) (xs text : List ℕ) → SoundTable sources names xs → takesAll mode (tokensOf xs) ≡ true
+    → text ≡ textOf (tokensOf xs) → Gives mode sources names xs text
+gives mode sources names xs text s k q table d table′ l w =
+    let n : length (tokensOf xs) ≡ places (length xs) = length-tokens xs 0 (places (length xs)) in
+    let m : length (tokensOf xs) ≤ places (length table) = omega (arith, n, l) in
+    let e : decoded mode sources names text (places (length table)) ≡ record { tokens = tokensOf xs; code = Code.Done; offset = length text }
+    = rw q (back mode sources names (places (length table)) (tokensOf xs) (sound-tokens sources names xs s) k m) in
+    let y : flat (tokensOf xs) ≡ xs = flat-tokens xs (not-bad sources names xs s) in
+    (rw n at (w .says ∙ ap answer e), w .wrote ∙ ap (λ (o : Out). over (o .tokens) table) e ∙ ap (λ (ys : List ℕ). onto ys table) y)
 
-pub round-trip : (mode : Mode) → RoundTrip mode
-round-trip mode sources names room ts s k l =
-    let e = back mode sources names room ts s k l in
-    record { same = ap (λ (o : Out). o .tokens) e; done = ap (λ (o : Out). o .code) e; whole = ap (λ (o : Out). o .offset) e }
+reads-back : (sources names : ℕ) (xs text : List ℕ) → SoundTable sources names xs → text ≡ textOf (tokensOf xs) → ReadsBack sources names xs text
+reads-back sources names xs text s q =
+    record {
+      lenient = gives Mode.Lenient sources names xs text s (takes-all Mode.Lenient (tokensOf xs)) q;
+      checked = λ k. gives Mode.Checked sources names xs text s k q;
+    }
 
-pub lenient-takes : LenientTakes
-lenient-takes ts = takes-all Mode.Lenient ts
+forth : (sources names : ℕ) (xs : List ℕ) → SoundTable sources names xs → firstBack 0 0 (tokensOf xs) ≡ none
+forth sources names xs s = never-back sources names 0 0 0 0 (tokensOf xs) (sound-tokens sources names xs s .meets)
 
-pub lenient-round-trip : LenientRoundTrip
-lenient-round-trip sources names room ts s l = round-trip Mode.Lenient sources names room ts s (lenient-takes ts) l
+pub write-and-read : WriteAndRead
+write-and-read sources names xs out e out′ s r w =
+    let q = whole-call xs (length out) (not-bad sources names xs s) (forth sources names xs s) r in (
+      ap (λ (x : Encoded). x .code) (w .says ∙ q),
+      reads-back sources names xs (take (e .bytes) out′) s (handed xs (whole xs) out e out′ w _ q ∙ whole-bytes xs),
+    )
 
-pub checked-round-trip : RoundTrip Mode.Checked
-checked-round-trip = round-trip Mode.Checked
+-- the calls over a table that meets the premises hand over its tokens' text
+cut-text : (sources names : ℕ) (xs : List ℕ) (ks : List Call) → SoundTable sources names xs → Cut xs (fresh 0 0) ks → AllDone ks × (joined ks ≡ textOf (tokensOf xs))
+cut-text sources names xs ks s u =
+    let g = not-bad sources names xs s in
+    let j = joins-whole xs g ks (forth sources names xs s) u in
+    (j .done, j .bytes ∙ rw (rest-whole xs g))
 
-pub table-round-trip : (mode : Mode) → TableRoundTrip mode
-table-round-trip mode sources names ts table d table′ s k l w =
-    let e = back mode sources names (places (length table)) ts s k l in
-    (w .says ∙ ap answer e, w .wrote ∙ ap (λ (o : Out). over (o .tokens) table) e)
+pub cut-and-read : CutAndRead
+cut-and-read sources names xs ks s u = let t = cut-text sources names xs ks s u in (t .0, reads-back sources names xs (joined ks) s (t .1))
 
-pub table-is-tokens : TableIsTokens
-table-is-tokens = flat-tokens
-
--- the text of a table's tokens, decoded into a table of its length
-read-table : (mode : Mode) (sources names : ℕ) (xs text table : List ℕ) (d : Decoded) (table′ : List ℕ) → SoundTable sources names xs
-    → takesAll mode (tokensOf xs) ≡ true → length table ≡ length xs → text ≡ textOf (tokensOf xs) → Decodes mode sources names text table d table′
-    → (d .code ≡ Code.Done) × SameTable table′ xs
-read-table mode sources names xs text table d table′ s k l q w =
-    let n : length (tokensOf xs) ≤ places (length table) = rw l (omega (arith, length-tokens xs 0 (places (length xs)))) in
-    let r = table-round-trip mode sources names (tokensOf xs) table d table′ (sound-tokens sources names xs s) k n (rw q at w) in
-    (ap (λ (x : Decoded). x .code) (r .0), r .1 ∙ over-tokens xs table (not-bad sources names xs s) l)
-
-pub write-and-read : (mode : Mode) → WriteAndRead mode
-write-and-read mode sources names xs out table e out′ d table′ s k r l w v =
-    let m = sound-tokens sources names xs s in
-    let q = whole-call xs (length out) (not-bad sources names xs s) (never-back sources names 0 0 0 0 (tokensOf xs) (m .meets)) r in
-    let text : take (e .bytes) out′ ≡ textOf (tokensOf xs) = hands xs (whole xs) out e out′ w ∙ rw q (whole-bytes xs) in
-    (ap (λ (x : Encoded). x .code) (w .says ∙ q), read-table mode sources names xs (take (e .bytes) out′) table d table′ s k l text v)
-
-pub cut-and-read : (mode : Mode) → CutAndRead mode
-cut-and-read mode sources names xs ks table d table′ s k u l v =
-    let m = sound-tokens sources names xs s in
-    let j = calls-whole xs (not-bad sources names xs s) ks (never-back sources names 0 0 0 0 (tokensOf xs) (m .meets)) u in
-    (ap (λ (x : Joined). x .done) j, read-table mode sources names xs (callsOn xs ks .bytes) table d table′ s k l (ap (λ (x : Joined). x .bytes) j) v)
+pub surely-reads-back : SurelyReadsBack
+surely-reads-back sources names xs r ks d e u = cut-and-read sources names xs ks (d .sound e) u
 
 pub one-text : OneText
-one-text sources names sources′ names′ a b s t e =
-    let l = lenient-round-trip (sources + sources′) (names + names′) (length a + length b) in
-    let x = l a (sound-more sources names (sources + sources′) (names + names′) (omega arith) (omega arith) a s) (omega arith) in
-    let y = l b (sound-more sources′ names′ (sources + sources′) (names + names′) (omega arith) (omega arith) b t) (omega arith) in
-    sym (x .same) ∙ rw e (y .same)
+one-text sources names sources′ names′ a b ks ls s t u v e =
+    let x = cut-text sources names a ks s u .1 in
+    let y = cut-text sources′ names′ b ls t v .1 in
+    let k = length (tokensOf a) + length (tokensOf b) in
+    let p = back Mode.Lenient (sources + sources′) (names + names′) k (tokensOf a)
+    (sound-more sources names (sources + sources′) (names + names′) (omega arith) (omega arith) (tokensOf a) (sound-tokens sources names a s))
+    (takes-all Mode.Lenient (tokensOf a)) (omega arith) in
+    let q = back Mode.Lenient (sources + sources′) (names + names′) k (tokensOf b)
+    (sound-more sources′ names′ (sources + sources′) (names + names′) (omega arith) (omega arith) (tokensOf b) (sound-tokens sources′ names′ b t))
+    (takes-all Mode.Lenient (tokensOf b)) (omega arith) in
+    let z : textOf (tokensOf a) ≡ textOf (tokensOf b) = sym x ∙ e ∙ y in
+    let same : tokensOf a ≡ tokensOf b = ap (λ (o : Out). o .tokens) (sym (rw z at p) ∙ q) in
+    sym (flat-tokens a (not-bad sources names a s)) ∙ rw same (flat-tokens b (not-bad sources′ names′ b t))

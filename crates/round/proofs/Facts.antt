@@ -13,7 +13,7 @@ use Rattle.token.specs.declared.Token.{Token}
 use Rattle.token.specs.declared.TokenChunk.{TokenChunk}
 use Rattle.chunk.specs.Chunk.{baseOf, after}
 use Rattle.premises.specs.Premises.{idWithin, follows, follow}
-use Rattle.round.specs.Terms.{fits32}
+use Rattle.premises.specs.Premises.{fits32}
 
 -- ---- numbers of 32 bits
 pub fits-cons : (x : ℕ) (xs : List ℕ) → fits32 (x ∷ xs) ≡ true → (x < 2 ^ 32) × (fits32 xs ≡ true)

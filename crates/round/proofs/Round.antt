@@ -10,19 +10,27 @@ use lib.ListN.{length}
 use borrow.Author.Tests.{lt-ltb, le-ltb, ltb-true, leb-true}
 use Rattle.list.specs.Pick.{pick, both}
 use Rattle.code.specs.declared.Code.{Code}
-use Rattle.token.specs.Table.{isNone, badTable, tokensOf}
+use Rattle.token.specs.Table.{isNone, badTable, tokensOf, flat}
 use Rattle.token.specs.declared.Token.{Token}
 use Rattle.token.specs.declared.TokenChunk.{TokenChunk}
 use Rattle.value.specs.declared.Mode.{Mode}
 use Rattle.decode.specs.Mapping.{decoded}
-use Rattle.chunk.specs.Chunk.{fieldsOf, after, firstBack}
-use Rattle.premises.specs.Premises.{idWithin, follows, follow, premises, decides}
-use Rattle.round.specs.Terms.{fresh, textOf, takes, takesEach, takesFrom, takesAll}
-use Rattle.round.specs.Demand3.{Sound, SoundTable}
+use Rattle.chunk.specs.Chunk.{fieldsOf, after, written, firstBack}
+use Rattle.premises.specs.Premises.{idWithin, follows, follow, premises, decides, fits32, SoundTable}
+use Rattle.round.specs.Terms.{fresh, takes, takesEach, takesFrom, takesAll}
 use Rattle.list.proofs.Pick.{both-true}
 use Rattle.round.proofs.Facts.{Held}
 use Rattle.round.proofs.Run.{run-back}
 use Rattle.token.proofs.Whole.{flat-tokens}
+
+-- the text of a list of tokens, from the start; where the chunk starts and ends plays no part in it
+abbrev pub textOf : List Token → List ℕ
+textOf ts = written 0 (fresh 0 0) ts
+
+-- tokens that meet the premises, of numbers of 32 bits
+pub record Sound (sources names : ℕ) (ts : List Token) : Type 0 where
+  pub meets : premises sources names ts ≡ true
+  pub fits : fits32 (flat ts) ≡ true
 
 zeros-held : Held (fresh 0 0)
 zeros-held = record { col = omega arith; srcLine = omega arith; srcCol = omega arith; source = omega arith; name = omega arith }

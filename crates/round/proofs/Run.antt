@@ -23,7 +23,8 @@ use Rattle.apply.specs.Apply.{applied}
 use Rattle.step.specs.Step.{stepped, segmentStep, stepFrom, stepAt}
 use Rattle.decode.specs.Mapping.{tokenThen, run}
 use Rattle.chunk.specs.Chunk.{lead, baseOf, fieldsOf, spelled, bytesOf, after, written}
-use Rattle.round.specs.Terms.{fits32, takesEach, takesFrom}
+use Rattle.premises.specs.Premises.{fits32}
+use Rattle.round.specs.Terms.{takesEach, takesFrom}
 use Rattle.round.proofs.Value.{Head, head, head-append}
 use Rattle.round.proofs.Fields.{Ends, fieldsAt, fields-back}
 use Rattle.list.proofs.Pick.{both-true}

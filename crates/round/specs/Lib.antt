@@ -1,4 +1,3 @@
-pub mod Chunks
 pub mod Demand3
 pub mod Terms
 pub mod Worked

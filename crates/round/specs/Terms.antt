@@ -1,38 +1,71 @@
--- The terms in which demand 3 is said. Assumes nothing.
+-- docs/RULES.md, Demands: the terms in which demand 3 is said. Assumes nothing.
 use mathlib.Core.Path.{_≡_}
 use mathlib.Core.Bool.{Bool, true}
-use mathlib.Core.List.{List, [], _∷_}
-use Prim.Native.Nat.{ℕ, _^_}
-use lib.Dec.{ltb}
-use lib.ListN.{length}
+use mathlib.Core.List.{List, [], _∷_, _++_}
+use Prim.Native.Nat.{ℕ, _≤_}
+use lib.ListN.{length, take}
+use Rattle.list.specs.Memory.{onto}
 use Rattle.list.specs.Pick.{both}
 use Rattle.code.specs.declared.Code.{Code}
+use Rattle.token.specs.Table.{places, tokensOf}
 use Rattle.token.specs.declared.Token.{Token}
 use Rattle.token.specs.declared.TokenChunk.{TokenChunk}
 use Rattle.value.specs.declared.Mode.{Mode}
-use Rattle.decode.specs.Mapping.{Out}
-use Rattle.chunk.specs.Chunk.{chunkOf, fieldsOf, after, written}
+use Rattle.decode.specs.declared.Decoded.{Decoded}
+use Rattle.decode.specs.Mapping.{Decodes}
+use Rattle.chunk.specs.Chunk.{chunkOf, withEnds, fieldsOf, after}
+use Rattle.encode.specs.declared.Encoded.{Encoded}
+use Rattle.encode.specs.Encode.{bytesIn, Encodes}
 
--- when lists of tokens count as the same
-abbrev pub SameTokens : List Token → List Token → Type 0
-SameTokens a b = a ≡ b
-
--- and when tables do
+-- when tables count as the same
 abbrev pub SameTable : List ℕ → List ℕ → Type 0
 SameTable a b = a ≡ b
-
--- every number is one of 32 bits
-unfoldable pub fits32 : List ℕ → Bool
-fits32 [] = true
-fits32 (x ∷ xs) = both (ltb x (2 ^ 32)) (fits32 xs)
 
 -- a chunk that nothing stands before
 abbrev pub fresh : ℕ → ℕ → TokenChunk
 fresh start end = chunkOf start end 0 0 0 0 0 0
 
--- the text of a list of tokens, from the start; where the chunk starts and ends plays no part in it
-abbrev pub textOf : List Token → List ℕ
-textOf ts = written 0 (fresh 0 0) ts
+-- the one chunk that is the whole table
+abbrev pub whole : List ℕ → TokenChunk
+whole table = fresh 0 (places (length table))
+
+-- ---- a table cut anywhere into chunks
+
+-- a call of the writer: where its chunk ends, the bytes lent to it, its answer, and what the bytes hold then
+pub record Call : Type 0 where
+  pub end : ℕ
+  pub out : List ℕ
+  pub answer : Encoded
+  pub out′ : List ℕ
+
+-- a call whose chunk begins where c does: it ends there or later, and not past the table, has room for its bytes, and does what the writer promises
+pub record Called (table : List ℕ) (c : TokenChunk) (k : Call) : Type 0 where
+  pub order : c .start ≤ k .end
+  pub within : k .end ≤ places (length table)
+  pub room : length (bytesIn table (withEnds (c .start) (k .end) c)) ≤ length (k .out)
+  pub meets : Encodes table (withEnds (c .start) (k .end) c) (k .out) (k .answer) (k .out′)
+
+-- successive calls up to the table's end: each gets the state that the call before it answered, the first gets c
+unfoldable pub Cut : List ℕ → TokenChunk → List Call → Type 0
+Cut table c [] = c .start ≡ places (length table)
+Cut table c (k ∷ ks) = Called table c k × Cut table (k .answer .next) ks
+
+-- the bytes that they hand over, joined
+unfoldable pub joined : List Call → List ℕ
+joined [] = []
+joined (k ∷ ks) = take (k .answer .bytes) (k .out′) ++ joined ks
+
+-- the state that the last of them answers
+unfoldable pub lastState : TokenChunk → List Call → TokenChunk
+lastState c [] = c
+lastState c (k ∷ ks) = lastState (k .answer .next) ks
+
+-- each is done
+unfoldable pub AllDone : List Call → Type 0
+AllDone [] = Unit {0}
+AllDone (k ∷ ks) = (k .answer .code ≡ Code.Done) × AllDone ks
+
+-- ---- what reads back
 
 -- the mode takes a value that is written for what it is: each mode takes every value
 unfoldable pub takes : Mode → ℕ → Bool
@@ -50,8 +83,13 @@ takesFrom mode p (t ∷ ts) = both (takesEach mode (fieldsOf p t)) (takesFrom mo
 abbrev pub takesAll : Mode → List Token → Bool
 takesAll mode ts = takesFrom mode (fresh 0 0) ts
 
--- a decode of the text gives the tokens: done, at the text's end
-pub record ReadsBack (ts : List Token) (text : List ℕ) (o : Out) : Type 0 where
-  pub same : SameTokens (o .tokens) ts
-  pub done : o .code ≡ Code.Done
-  pub whole : o .offset ≡ length text
+-- decoded into any table with room for it, the text gives the table xs: all its tokens, and past them what was there before
+abbrev pub Gives : Mode → ℕ → ℕ → List ℕ → List ℕ → Type 0
+Gives mode sources names xs text =
+    (table : List ℕ) (d : Decoded) (table′ : List ℕ) → length xs ≤ length table → Decodes mode sources names text table d table′
+    → (d ≡ record { code = Code.Done; tokens = places (length xs); offset = length text }) × SameTable table′ (onto xs table)
+
+-- in lenient mode, and in checked mode where that takes every value that is written
+pub record ReadsBack (sources names : ℕ) (xs text : List ℕ) : Type 0 where
+  pub lenient : Gives Mode.Lenient sources names xs text
+  pub checked : takesAll Mode.Checked (tokensOf xs) ≡ true → Gives Mode.Checked sources names xs text

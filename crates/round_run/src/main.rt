@@ -1,4 +1,4 @@
-// Demand 3, running: writes a table in chunks of every size, joins the bytes, decodes them in both modes and compares.
+// Demand 3 of docs/RULES.md, running: writes a table in chunks of every size, joins the bytes, decodes them in both modes and compares.
 use token::Token;
 use token::TokenChunk;
 

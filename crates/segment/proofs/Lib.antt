@@ -1,5 +1,6 @@
+pub mod Border
 pub mod Five
-pub mod OneDigit
 pub mod Loop
+pub mod OneDigit
 pub mod Range
 pub mod Reach

@@ -1,4 +1,4 @@
--- Document 01, "Mappings": all values of a segment, up to a delimiter or the end. Assumes nothing.
+-- docs/RULES.md, Mappings: all values of a segment, up to a delimiter or the end. Assumes nothing.
 use mathlib.Core.List.{List, [], _∷_, _++_}
 use Prim.Native.Nat.{ℕ, zero, suc, _+_, _-_}
 use lib.IntN.{ℤ, pos}

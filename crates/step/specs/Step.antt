@@ -1,4 +1,4 @@
--- Document 01, "Mappings": the next token of a text, or a refusal with its offset, or the end. Assumes nothing.
+-- docs/RULES.md, Mappings: the next token of a text, or a refusal with its offset, or the end. Assumes nothing.
 use mathlib.Core.List.{List, [], _∷_}
 use Prim.Native.Nat.{ℕ, _+_, _%_, _^_}
 use lib.Dec.{eqb}

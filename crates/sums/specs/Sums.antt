@@ -1,4 +1,4 @@
--- Document 01, "Mappings": what becomes of the sum of a running number and a value. Assumes nothing.
+-- docs/RULES.md, Mappings: what becomes of the sum of a running number and a value. Assumes nothing.
 use Prim.Native.Nat.{ℕ, _-_, _%_, _^_}
 use lib.Dec.{ltb}
 use lib.IntN.{ℤ, pos, negsuc}

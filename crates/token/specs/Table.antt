@@ -1,4 +1,4 @@
--- Document 01, "Token tables": a token is six 32-bit numbers, a table a lent list of such numbers. Assumes nothing.
+-- docs/RULES.md, Tables: a token is six 32-bit numbers, a table a lent list of such numbers. Assumes nothing.
 use mathlib.Core.Bool.{Bool, true}
 use mathlib.Core.List.{List, [], _∷_, _++_}
 use Prim.Native.Nat.{ℕ, zero, suc, _+_, _*_, _/_, _%_}

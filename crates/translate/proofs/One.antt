@@ -8,8 +8,7 @@ use borrow.Author.Tests.{eq-eqb, ne-eqb, le-leb, lt-leb, lt-ltb, le-ltb, leb-tru
 use Rattle.list.specs.Pick.{pick}
 use Rattle.token.specs.Table.{noId}
 use Rattle.token.specs.declared.Token.{Token}
-use Rattle.translate.specs.declared.Translated.{Translated}
-use Rattle.translate.specs.Translate.{idMoved, idTooBig, tooBig, moved, translatedOf}
+use Rattle.translate.specs.Translate.{idMoved, idTooBig, tooBig, moved}
 
 -- the sum is tested by what is left of the range, so that it cannot wrap
 left-of : (id offset : ℕ) → id < noId → (t : Bool) → leb (noId - id) offset ≡ t → t ≡ leb noId (id + offset)
@@ -79,11 +78,3 @@ module _ (line source name : ℕ) (t : Token) where
       ≡ moved line source name t
   unfolding moved
   is-moved s n es en = rw (es, en)
-
-  pub is-too-big : tooBig line source name t ≡ true → Translated.TooBig ≡ translatedOf line source name t
-  unfolding translatedOf
-  is-too-big e = simp e
-
-  pub is-to : (t′ : Token) → tooBig line source name t ≡ false → t′ ≡ moved line source name t → Translated.To t′ ≡ translatedOf line source name t
-  unfolding translatedOf
-  is-to t′ e et = rw (e, et)

@@ -1,4 +1,4 @@
--- Document 01, "Translating". Assumes nothing.
+-- docs/RULES.md, Translating. Assumes nothing.
 use mathlib.Core.Path.{_≡_}
 use mathlib.Core.Bool.{Bool, true, false}
 use mathlib.Core.List.{List, [], _∷_}
@@ -11,7 +11,6 @@ use Rattle.code.specs.Code.{codeOf}
 use Rattle.code.specs.declared.Code.{Code}
 use Rattle.token.specs.Table.{token, isNone, badTable, tokensOf, over}
 use Rattle.token.specs.declared.Token.{Token}
-use Rattle.translate.specs.declared.Translated.{Translated}
 
 -- ids other than none are moved
 abbrev pub idMoved : ℕ → ℕ → ℕ
@@ -29,10 +28,6 @@ tooBig line source name t =
 unfoldable pub moved : ℕ → ℕ → ℕ → Token → Token
 moved line source name t =
     token (t .«dst_line» + line) (t .«dst_col») (t .«src_line») (t .«src_col») (idMoved (t .«source_id») source) (idMoved (t .«name_id») name)
-
--- one token's translation, or too big
-unfoldable pub translatedOf : ℕ → ℕ → ℕ → Token → Translated
-translatedOf line source name t = pick (tooBig line source name t) Translated.TooBig (Translated.To (moved line source name t))
 
 -- each token replaced by its translation
 unfoldable pub allMoved : ℕ → ℕ → ℕ → List Token → List Token

@@ -7,13 +7,7 @@ ghost use mathlib.Core.Bool.{false};
 ghost use mathlib.Core.Option.{none};
 ghost use lib.ListN.{length};
 ghost use Rattle.token.specs.Table.{tokensOf, over};
-ghost use Rattle.translate.specs.Translate.{idMoved, idTooBig, tooBig, translatedOf, allMoved, firstTooBig, translatesTo, Translates};
-
-// One token's translation, or too big.
-pub enum Translated {
-    To(Token),
-    TooBig,
-}
+ghost use Rattle.translate.specs.Translate.{idMoved, idTooBig, tooBig, allMoved, firstTooBig, translatesTo, Translates};
 
 // Tests what is left of the range, so that no sum can wrap.
 fn id_too_big(id: u32, offset: u32) -> bool
@@ -64,16 +58,6 @@ pub fn moved(t: Token, line: u32, source: u32, name: u32) -> Token
         source_id,
         name_id,
     }
-}
-
-// A token's translation by itself, refused where a table with it would be.
-pub fn translate_one(t: Token, line: u32, source: u32, name: u32) -> Translated
-    ensures { λ r. ⌜ r ≡ translatedOf line source name t ⌝ }
-{
-    if too_big(t, line, source, name) {
-        return Translated::TooBig;
-    }
-    Translated::To(moved(t, line, source, name))
 }
 
 // What translating the table answers; the table is only looked at.

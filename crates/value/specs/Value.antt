@@ -1,4 +1,4 @@
--- Document 01, "Values": the sign, and what a value is in each mode. Assumes nothing.
+-- docs/RULES.md, Values: the sign, and what a value is in each mode. Assumes nothing.
 use mathlib.Core.Bool.{Bool, true, false}
 use Prim.Native.Nat.{ℕ, suc, _-_, _/_, _%_, _^_}
 use lib.IntN.{ℤ, pos, negsuc, negℤ}

@@ -1,4 +1,4 @@
--- Document 01, "Values", and ECMA-426: the number that the digits of one value make. The limit of thirteen digits is the crate's.
+-- docs/RULES.md, Values, and ECMA-426: the number that the digits of one value make. The limit of thirteen digits is the crate's.
 -- Assumes nothing.
 use mathlib.Core.List.{List, [], _∷_}
 use Prim.Native.Nat.{ℕ, _+_, _-_, _*_, _/_, _%_, _^_}

@@ -7,7 +7,7 @@ use lib.ListN.{length, set}
 use Rattle.digits.specs.Digits.{charOf}
 use Rattle.list.specs.Put.{Put}
 use Rattle.vlq_write.specs.Write.{digitsOf, writeOf}
-use Rattle.vlq_write.proofs.Put.{Due, due-all, due-is, due-same, due-room, due-byte, due-none}
+use Rattle.list.proofs.Put.{Due, due-all, due-is, due-same, due-room, due-byte, due-none}
 use Rattle.vlq_write.proofs.Digits.{digits-last, digits-more, digits-some}
 
 -- the digits of n are due, of which `steps` others may come before the last

@@ -1,4 +1,4 @@
--- Document 01, "Values" and "Writing": how the step from one number to another is written. Assumes nothing.
+-- docs/RULES.md, Values and Writing: how the step from one number to another is written. Assumes nothing.
 use mathlib.Core.List.{List, [], _∷_}
 use Prim.Native.Nat.{ℕ, zero, suc, _+_, _-_, _*_, _/_, _%_}
 use lib.Dec.{ltb}

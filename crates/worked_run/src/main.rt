@@ -1,4 +1,4 @@
-// Decodes document 01's worked texts in both modes: for each mode a line with the code, the number with it, how many tokens
+// Decodes the worked texts of docs/RULES.md in both modes: for each mode a line with the code, the number with it, how many tokens
 // were written and the offset, and then the tokens.
 use decode::Decoded;
 ghost use Prim.Native.Nat.{_≤_};

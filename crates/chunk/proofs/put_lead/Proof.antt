@@ -1,4 +1,4 @@
-use Rattle.vlq_write.proofs.Put.{put-long}
+use Rattle.list.proofs.Put.{put-long}
 use lib.ListN.{length-set}
 use native.Mathlib.Omega.{arith}
 use Rattle.chunk.proofs.Lead.{put-none, comma-fits, put-comma, semi-fits, semis-fit, put-one, put-more}

@@ -13,7 +13,7 @@ found-number-requires : tie.Need-found-number-requires
 found-number-requires c κs = search needs
 
 returns : tie.Need-returns
-returns c = record { inner = c .before .before .lookup-token .result; looks = c .before .before .lookup-token .ensures; says = rw (c .before .found-code .ensures, c .found-number .ensures) }
+returns c = record { inner = c .before .before .lookup-token .result; holds = c .before .before .lookup-token .ensures; says = rw (c .before .found-code .ensures, c .found-number .ensures) }
 
 pub pgk-lookup-spec : {M : Type 1} → statement M
 pgk-lookup-spec =

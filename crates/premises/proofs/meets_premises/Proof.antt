@@ -2,7 +2,7 @@
 use Prim.Native.Nat.{_-_}
 use native.Mathlib.Omega.{arith}
 use borrow.Author.Needs.{needs}
-use Rattle.premises.proofs.Laws.{Passing, refuses, begin, ends, stops, goes-on}
+use Rattle.premises.proofs.Laws.{Passing, says-no, says-yes, refuses, begin, ends, stops, goes-on}
 use Rattle.premises.proofs.meets_premises.Statement.{statement}
 use Rattle.premises.proofs.meets_premises.Tie as tie
 
@@ -16,7 +16,7 @@ bad-table-requires : tie.Need-bad-table-requires Inv-loop μ-loop
 bad-table-requires c κs = search needs
 
 returns : tie.Need-returns Inv-loop μ-loop
-returns c = refuses _ _ _ _ (c .before .bad-table .ensures) (c .if1 .taken)
+returns c = says-no _ _ _ (refuses _ _ _ _ (c .before .bad-table .ensures) (c .if1 .taken))
 
 places-in-requires : tie.Need-places-in-requires Inv-loop μ-loop
 places-in-requires c κs = search needs
@@ -31,7 +31,7 @@ follows-ok-requires : tie.Need-follows-ok-requires Inv-loop μ-loop
 follows-ok-requires c κs = search needs
 
 returns-2 : tie.Need-returns-2 Inv-loop μ-loop
-returns-2 c = stops _ _ _ _ _ _ _ (c .before .before .before .before .loop .inv) _ (c .before .before .before .before .before .places-in .ensures) (c .before .before .before .loop-test .taken) _ (c .before .before .token-at .ensures) _ (c .before .follows-ok .ensures) (c .if2 .taken)
+returns-2 c = says-no _ _ _ (stops _ _ _ _ _ _ _ (c .before .before .before .before .loop .inv) _ (c .before .before .before .before .before .places-in .ensures) (c .before .before .before .loop-test .taken) _ (c .before .before .token-at .ensures) _ (c .before .follows-ok .ensures) (c .if2 .taken))
 
 latest-requires : tie.Need-latest-requires Inv-loop μ-loop
 latest-requires c κs = search needs
@@ -49,7 +49,7 @@ loop-again : tie.Need-loop-again Inv-loop μ-loop
 loop-again c = goes-on _ _ _ _ _ _ _ (c .before .before .before .before .before .before .loop .inv) _ (c .before .before .before .before .before .before .before .places-in .ensures) (c .before .before .before .before .before .loop-test .taken) _ (c .before .before .before .before .token-at .ensures) _ (c .before .before .before .follows-ok .ensures) (c .before .before .if2 .left) _ _ (c .before .latest .ensures) (c .latest2 .ensures)
 
 returns-3 : tie.Need-returns-3 Inv-loop μ-loop
-returns-3 c = ends _ _ _ _ _ _ _ (c .before .loop .inv) _ (c .before .before .places-in .ensures) (c .loop-test .left)
+returns-3 c = says-yes _ _ _ (λ i. omega (arith, c .before .before .before .before .before .shared-slice-known .given i)) (ends _ _ _ _ _ _ _ (c .before .loop .inv) _ (c .before .before .places-in .ensures) (c .loop-test .left))
 
 pub meets-premises-spec : {M : Type 1} → statement M
 meets-premises-spec =

@@ -4,7 +4,7 @@ use borrow.Author.Needs.{needs}
 use Rattle.vlq_write.specs.Write.{writeOf}
 use Rattle.vlq_write.proofs.Loop.{one-fits, one}
 use Rattle.vlq_write.proofs.NearSteps.{near-small, near-char, far-few}
-use Rattle.vlq_write.proofs.Put.{put-is}
+use Rattle.list.proofs.Put.{put-is}
 use Rattle.vlq_write.proofs.put_step.Statement.{statement}
 use Rattle.vlq_write.proofs.put_step.Tie as tie
 

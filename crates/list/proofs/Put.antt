@@ -4,9 +4,10 @@ use mathlib.Core.List.{List, [], _∷_, _++_, append-assoc, append-nil}
 use Prim.Native.Nat.{ℕ, _+_, _≤_, _<_}
 use native.Mathlib.Omega.{arith}
 use lib.ListN.{length, set, length-append}
-use Rattle.list.specs.Memory.{blit}
+use native.Mathlib.Nat.{zero-add}
+use Rattle.list.specs.Memory.{onto, blit}
 use Rattle.list.proofs.Memory.{blit-nil, blit-set, blit-blit, length-blit}
 use Rattle.list.specs.Put.{Put}
 
 pub put-nothing : (out : List ℕ) (at : ℕ) → Put out at [] at out
 put-nothing out at = record { past = omega arith; wrote = sym (blit-nil out at) }
@@ -85,3 +86,8 @@ module _ (out₀ : List ℕ) (at : ℕ) (whole : List ℕ) (v : ℕ) (rest : Lis
 
   pub due-byte : Due out₀ at whole rest (i + 1) (set out i v)
   due-byte = due-put out₀ at whole (v ∷ []) rest i out d (i + 1) (set out i v) (put-byte out i v due-byte-fits)
+
+-- a run put at the start
+pub put-onto : (out bs : List ℕ) (r : ℕ) (out′ : List ℕ) → Put out 0 bs r out′ → (r ≡ length bs) × (out′ ≡ onto bs out)
+unfolding blit onto
+put-onto out bs r out′ q = (q .past ∙ zero-add (length bs), q .wrote ∙ rw zero-add)

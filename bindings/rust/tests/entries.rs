@@ -1,0 +1,108 @@
+//! The version, the size of a table, the premises of writing, and what a token derives.
+
+use peghayrick::*;
+use std::collections::HashSet;
+
+/// The archive that was linked, the constant and the package are of one version.
+#[test]
+fn one_version() {
+    let part = |text: &str| text.parse::<u64>().unwrap();
+    let package = part(env!("CARGO_PKG_VERSION_MAJOR")) * 1_000_000
+        + part(env!("CARGO_PKG_VERSION_MINOR")) * 1_000
+        + part(env!("CARGO_PKG_VERSION_PATCH"));
+    assert_eq!(VERSION, package);
+    assert_eq!(version(), VERSION);
+}
+
+#[test]
+fn sizes_of_tables() {
+    for (text, tokens) in [
+        ("", 0),
+        (";;,", 0),
+        ("A", 1),
+        (",A;", 1),
+        ("AAEG;C", 2),
+        ("AAEG;C;;", 2),
+        ("A,,A;;A", 3),
+        ("gggggggggggggggg", 1),
+        ("!\u{e4}\n", 1),
+    ] {
+        assert_eq!(table_size(text.as_bytes()), WIDTH * tokens, "{text}");
+    }
+}
+
+/// Every text of up to seven of these symbols: a table of that size is never full, and no smaller one does where all is taken.
+#[test]
+fn no_table_of_that_size_is_full() {
+    let symbols = b",;AC!";
+    let (mut done, mut refused) = (0, 0);
+    for length in 0..=7u32 {
+        for number in 0..5usize.pow(length) {
+            let text: Vec<u8> = (0..length).map(|k| symbols[number / 5usize.pow(k) % 5]).collect();
+            let delimiters = text.iter().filter(|b| b",;".contains(b)).count();
+            let size = table_size(&text);
+            assert!(size <= WIDTH * (delimiters + 1));
+            let mut table = vec![0; size];
+            match decode_checked(&text, 9, 9, &mut table) {
+                Ok(decoded) => {
+                    assert_eq!(WIDTH * decoded.tokens, size);
+                    done += 1;
+                    if size != 0 {
+                        let full = decode_checked(&text, 9, 9, &mut table[1..]).unwrap_err();
+                        assert_eq!((full.code(), full.at().map(|at| at.tokens)), (7, Some(decoded.tokens - 1)));
+                    }
+                }
+                Err(refusal) => {
+                    assert_ne!(refusal.code(), 7, "{text:?}");
+                    refused += 1;
+                }
+            }
+        }
+    }
+    assert!(done > 1000 && refused > 1000, "{done} {refused}");
+}
+
+/// Written and read again, leniently.
+fn again(tokens: &[Token], sources: u32, names: u32) -> Result<Vec<Token>, Refusal> {
+    let mut out = vec![0; 36 * tokens.len() + 9];
+    let encoded = serialize_mappings(table_of(tokens), TokenChunk::first(tokens.len() as u32), &mut out)?;
+    let mut table = vec![0; table_size(&out[..encoded.bytes])];
+    let decoded = decode_lenient(&out[..encoded.bytes], sources, names, &mut table)?;
+    Ok(tokens_of(written(&table, decoded.tokens)).to_vec())
+}
+
+#[test]
+fn premises() {
+    let (source, name) = (Token::new(0, 1, 2, 3, Some(1), None), Token::new(0, 4, 5, 6, Some(0), Some(2)));
+    let bare = |line, src_line, src_col| Token::new(line, 9, src_line, src_col, None, None);
+    for (tokens, meets) in [
+        (vec![], true),
+        (vec![source, name], true),
+        (vec![bare(3, 0, 0), source, bare(0, 2, 3)], false),
+        (vec![bare(0, 0, 0), source, bare(0, 2, 3), name, bare(1, 5, 6)], true),
+        (vec![bare(0, 0, 1)], false),
+        (vec![source, bare(0, 2, 2)], false),
+        (vec![source, bare(0, 0, 0)], false),
+        (vec![Token::new(0, 0, 0, 0, None, Some(0))], false),
+        (vec![Token::new(0, 0, 0, 0, Some(2), None)], false),
+        (vec![Token::new(0, 0, 0, 0, Some(0), Some(3))], false),
+        (vec![Token::new(1, 0, 0, 0, Some(0), None), source], false),
+    ] {
+        assert_eq!(meets_premises(table_of(&tokens), 2, 3), meets, "{tokens:?}");
+        // Each of these that does not meet them is refused, or reads back as something else.
+        assert_eq!(again(&tokens, 2, 3).as_ref() == Ok(&tokens), meets, "{tokens:?}");
+    }
+    assert!(!meets_premises(&table_of(&[source])[..5], 2, 3));
+}
+
+#[test]
+fn tokens() {
+    assert_eq!(table_of(&[Token::default()]), [0, 0, 0, 0, NONE, NONE]);
+    let token = Token::new(1, 2, 3, 4, Some(5), None);
+    let both: HashSet<Token> = [token, token, Token::default()].into_iter().collect();
+    assert_eq!(both.len(), 2);
+    assert_eq!(
+        format!("{token:?} {:?}", Token::default().name_id),
+        "Token { dst_line: 1, dst_col: 2, src_line: 3, src_col: 4, source_id: Some(5), name_id: None } 4294967295"
+    );
+}

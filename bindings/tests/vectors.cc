@@ -1,0 +1,46 @@
+// The header from C++: std::vector lends everything, empty ones by the header's idiom, since their data() may be null.
+#include <cstdio>
+#include <vector>
+#include "peghayrick.h"
+
+static unsigned passed, failed;
+
+static void check(bool ok, const char *what) {
+    if (ok) passed++;
+    else { failed++; std::printf("FAILED: %s\n", what); }
+}
+
+static uint32_t number;
+static uint8_t byte;
+static uint32_t *lent(std::vector<uint32_t> &v) { return v.empty() ? &number : v.data(); }
+static const uint8_t *lent(const std::vector<uint8_t> &v) { return v.empty() ? &byte : v.data(); }
+
+static pgk_decoded decoded(const std::vector<uint8_t> &text, std::vector<uint32_t> &table) {
+    table.resize(pgk_table_size(lent(text), text.size()));
+    pgk_decoded d = pgk_decode_checked(lent(text), text.size(), 1, 0, lent(table), table.size());
+    table.resize(PGK_WIDTH * d.tokens);
+    return d;
+}
+
+int main() {
+    std::vector<uint32_t> table;
+    pgk_decoded d = decoded({}, table);
+    check(d.code == PGK_DONE && table.empty(), "an empty text needs no table");
+    check(pgk_lookup(lent(table), table.size(), 0, 0).number == PGK_NONE, "a lookup in no table");
+    check(pgk_meets_premises(lent(table), table.size(), 0, 0) == 1, "the premises of no table");
+
+    d = decoded({ 'A', 'A', 'E', 'G', ';', 'C', ';' }, table);
+    check(d.code == PGK_DONE && d.tokens == 2 && d.offset == 7, "two tokens");
+    check(pgk_meets_premises(lent(table), table.size(), 1, 0) == 1, "their premises");
+    std::vector<uint8_t> out(36 * d.tokens + 1);
+    pgk_encoded e = pgk_encode(lent(table), table.size(), pgk_first_chunk(static_cast<uint32_t>(d.tokens)), out.data(), out.size());
+    out.resize(e.bytes);
+    check(out == std::vector<uint8_t>({ 'A', 'A', 'E', 'G', ';', 'C' }), "written back, without the ';' at the end");
+
+    d = decoded({ 'A', 'A', 'E' }, table);
+    check(d.code == PGK_BAD_SEGMENT_SIZE && table.empty(), "a refusal");
+    check(pgk_words(d.code) != pgk_words(PGK_DONE), "its words");
+    check(pgk_version() == PGK_VERSION, "the version");
+    std::printf("%u passed, %u failed\n", passed, failed);
+    return failed != 0;
+}

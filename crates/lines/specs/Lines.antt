@@ -9,19 +9,6 @@ use Rattle.token.specs.Table.{isNone}
 use Rattle.token.specs.declared.Token.{Token}
 use Rattle.decimal.specs.Decimal.{figuresOf}
 
--- the fixed words `tokens`, `end`, `at` and `input`
-abbrev pub wordTokens : List ℕ
-wordTokens = 116 ∷ 111 ∷ 107 ∷ 101 ∷ 110 ∷ 115 ∷ []
-
-abbrev pub wordEnd : List ℕ
-wordEnd = 101 ∷ 110 ∷ 100 ∷ []
-
-abbrev pub wordAt : List ℕ
-wordAt = 97 ∷ 116 ∷ []
-
-abbrev pub wordInput : List ℕ
-wordInput = 105 ∷ 110 ∷ 112 ∷ 117 ∷ 116 ∷ []
-
 -- words with a space between them, and a newline
 unfoldable pub line : List (List ℕ) → List ℕ
 line [] = 10 ∷ []
@@ -43,16 +30,16 @@ unfoldable pub tokenLines : List Token → List ℕ
 tokenLines [] = []
 tokenLines (t ∷ ts) = tokenLine t ++ tokenLines ts
 
--- the first line: how many tokens there are
+-- `tokens` and how many there are
 unfoldable pub countLine : ℕ → List ℕ
-countLine n = line (wordTokens ∷ figuresOf n ∷ [])
+countLine n = line ((116 ∷ 111 ∷ 107 ∷ 101 ∷ 110 ∷ 115 ∷ []) ∷ figuresOf n ∷ [])
 
--- the last line: the code, and of a refusal its number, 0 too, and the offset
+-- `end` and the code 0; of a refusal the code, its number, `at` and the offset
 unfoldable pub endLine : Code → ℕ → List ℕ
 endLine code offset =
-    pick (eqb (codeOf code) 0) (line (wordEnd ∷ figuresOf (codeOf code) ∷ []))
-    (line (wordEnd ∷ figuresOf (codeOf code) ∷ figuresOf (numberOf code) ∷ wordAt ∷ figuresOf offset ∷ []))
+    pick (eqb (codeOf code) 0) (line ((101 ∷ 110 ∷ 100 ∷ []) ∷ figuresOf 0 ∷ []))
+    (line ((101 ∷ 110 ∷ 100 ∷ []) ∷ figuresOf (codeOf code) ∷ figuresOf (numberOf code) ∷ (97 ∷ 116 ∷ []) ∷ figuresOf offset ∷ []))
 
--- the one line of an input that is not taken
+-- `input`: the one line of an input that is not taken
 abbrev pub inputLine : List ℕ
-inputLine = line (wordInput ∷ [])
+inputLine = line ((105 ∷ 110 ∷ 112 ∷ 117 ∷ 116 ∷ []) ∷ [])

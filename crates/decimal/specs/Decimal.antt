@@ -8,6 +8,7 @@ use Rattle.list.specs.Pick.{pick}
 abbrev pub Figure : ℕ → Type 0
 Figure b = (48 ≤ b) × (b ≤ 57)
 
+-- figures only
 abbrev pub Figures : List ℕ → Type 0
 Figures [] = Unit {0}
 Figures (b ∷ bs) = Figure b × Figures bs
@@ -17,6 +18,7 @@ unfoldable pub decimalFrom : ℕ → List ℕ → ℕ
 decimalFrom n [] = n
 decimalFrom n (b ∷ bs) = decimalFrom (10 * n + (b - 48)) bs
 
+-- the value of figures
 abbrev pub decimal : List ℕ → ℕ
 decimal ds = decimalFrom 0 ds
 

@@ -58,6 +58,10 @@ module _ (input : List ℕ) where
         let o = put-onto out (rendered input) r out′ (p .put) in
         record { says = o .0; wrote = o .1; whole = omega (arith, p .few) }
 
+-- the same is printed for each longer input
+pub longer-same : (a b : List ℕ) → 16384 < length a → 16384 < length b → rendered a ≡ rendered b
+longer-same a b h k = too-long a h ∙ sym (too-long b k)
+
 -- what the caller hands over is the start of the lent bytes, and that is what is printed
 module _ (input out : List ℕ) (r : ℕ) (out′ : List ℕ) (f : Renders input out r out′) where
   pub within : r ≤ length out′

@@ -5,7 +5,6 @@ use first_line::FirstLine;
 ghost use mathlib.Core.Path.{_≡_};
 ghost use Prim.Native.Nat.{_≤_};
 ghost use lib.ListN.{length};
-ghost use Rattle.list.specs.Put.{Put};
 ghost use Rattle.value.specs.declared.Mode.{Mode};
 ghost use Rattle.decode.specs.Mapping.{decoded};
 ghost use Rattle.lines.specs.Parts.{PutMost};
@@ -17,9 +16,8 @@ const MOST: usize = 16384;
 // The tokens there is room for.
 const PLACES: usize = 1024;
 
-// Bytes for every input: the first line, with a number of 64 bits; a line of six numbers of 32 bits for each token; and the
-// last line, with three numbers of 64 bits.
-pub const ROOM: usize = 28 + PLACES * 66 + 70;
+// Bytes for every input: 67,682, of which `render` says that nothing is cut off.
+pub const ROOM: usize = lines::FIRST + PLACES * lines::EACH + lines::LAST;
 
 // A text, decoded in lenient mode.
 fn render_text(text: &[u8], sources: u32, names: u32, out: &mut [u8]) -> usize

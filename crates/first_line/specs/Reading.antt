@@ -9,6 +9,7 @@ use Rattle.list.specs.Pick.{pick, both}
 use Rattle.first_line.specs.declared.FirstLine.{FirstLine}
 use Rattle.first_line.specs.declared.Number.{Number}
 
+-- a byte `0` to `9`
 unfoldable pub isFigure : ℕ → Bool
 isFigure b = both (leb 48 b) (leb b 57)
 
@@ -25,14 +26,16 @@ numberFrom stop figures n i (b ∷ bs) =
     (pick (eqb figures 10) Number.Bad (numberFrom stop (figures + 1) (10 * n + (b - 48)) (i + 1) bs))
     Number.Bad)
 
+-- the count that begins at a place
 abbrev pub numberAt : List ℕ → ℕ → ℕ → Number
 numberAt s at stop = numberFrom stop 0 0 at (drop at s)
 
--- the second count, after the first
+-- the second count, up to a newline, after the first
 abbrev pub second : ℕ → Number → FirstLine
 second sources (Number.Value names at) = FirstLine.Counts sources names at
 second sources Number.Bad = FirstLine.Bad
 
+-- the first count, up to a space, and then the second
 abbrev pub first : List ℕ → Number → FirstLine
 first input (Number.Value sources at) = second sources (numberAt input at 10)
 first input Number.Bad = FirstLine.Bad

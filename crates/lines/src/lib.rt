@@ -10,6 +10,15 @@ ghost use Rattle.decimal.specs.Decimal.{figuresOf};
 ghost use Rattle.lines.specs.Lines.{idText, tokenLine, tokenLines, countLine, endLine, inputLine};
 ghost use Rattle.lines.specs.Parts.{spaced, PutMost};
 
+// The most bytes of the first line, which has a number of 64 bits.
+pub const FIRST: usize = 28;
+
+// The most bytes of a token's line: six numbers of 32 bits.
+pub const EACH: usize = 66;
+
+// The most bytes of the last line, which has three numbers of 64 bits.
+pub const LAST: usize = 70;
+
 // The bytes of a word.
 fn put_word(out: &mut [u8], at: usize, word: &[u8]) -> usize
     requires { ⌜ at + length (now word) ≤ length (now out) ⌝ }
@@ -55,7 +64,7 @@ fn put_position(out: &mut [u8], at: usize, line: u64, col: u64) -> usize
     put_number(out, after_line, col, b' ')
 }
 
-// A token's line, of six numbers: 66 bytes at the most.
+// A token's line.
 fn put_token(out: &mut [u8], at: usize, t: Token) -> usize
     requires { ⌜ at + 66 ≤ length (now out) ⌝ }
     ensures { λ r. ⌜ PutMost 66 (now (out .entry)) at (tokenLine t) r (now (out .exit)) ⌝ }
@@ -81,7 +90,7 @@ pub fn put_tokens(table: &[u32], n: usize, out: &mut [u8], at: usize) -> usize
     next
 }
 
-// The first line: how many tokens there are. 28 bytes at the most.
+// The first line: how many tokens there are.
 pub fn put_count(out: &mut [u8], at: usize, n: usize) -> usize
     requires { ⌜ at + 28 ≤ length (now out) ⌝ }
     ensures { λ r. ⌜ PutMost 28 (now (out .entry)) at (countLine n) r (now (out .exit)) ⌝ }
@@ -90,7 +99,7 @@ pub fn put_count(out: &mut [u8], at: usize, n: usize) -> usize
     put_number(out, i, n as u64, b'\n')
 }
 
-// The last line: the code, and of a refusal its number, 0 too, and where it stands. 70 bytes at the most.
+// The last line: the code, and of a refusal its number, 0 too, and where it stands.
 pub fn put_end(out: &mut [u8], at: usize, code: Code, offset: usize) -> usize
     requires { ⌜ at + 70 ≤ length (now out) ⌝ }
     ensures { λ r. ⌜ PutMost 70 (now (out .entry)) at (endLine code offset) r (now (out .exit)) ⌝ }

@@ -22,7 +22,7 @@ fn print_decoded(mode: &[u8], d: Decoded, table: &[u32; PLACES * token::WIDTH])
     print_number(code::number_of(code), b" ");
     print_number(d.tokens as u64, b" ");
     print_number(d.offset as u64, b"\n");
-    let mut out = [0u8; PLACES * 66];
+    let mut out = [0u8; PLACES * lines::EACH];
     let n = lines::put_tokens(table, d.tokens, &mut out, 0);
     io::write_all(1, &out[..n]);
 }

@@ -1,5 +1,5 @@
 //! The library's C names over code that was compiled without a proof, as `rt try` compiles it: there a function takes its result's
-//! place first, and whatever is not one number by its address. Only compare/mutate uses this.
+//! place first, unless that is one number, and whatever is not one number by its address. Only compare/mutate uses this.
 #![allow(clippy::too_many_arguments)]
 
 use std::mem::MaybeUninit;
@@ -28,8 +28,8 @@ unsafe extern "C" {
     fn raw_pgk_translate(r: *mut Words<2>, table: &Fat, line: u32, source: u32, name: u32);
     fn raw_pgk_translate_tokens(r: *mut Words<2>, table: &Fat, line: u32, source: u32, name: u32);
     fn raw_pgk_lookup(r: *mut Words<2>, table: &Fat, line: u32, col: u32);
-    fn raw_pgk_table_size(r: *mut Words<1>, text: &Fat);
-    fn raw_pgk_meets_premises(r: *mut Words<1>, table: &Fat, sources: u32, names: u32);
+    fn raw_pgk_table_size(text: &Fat) -> u64;
+    fn raw_pgk_meets_premises(table: &Fat, sources: u32, names: u32) -> u64;
     fn raw_pgk_encode(r: *mut Words<7>, table: &Fat, chunk: &Chunk, out: &Fat);
     fn raw_pgk_compose(
         r: *mut Words<3>,
@@ -89,12 +89,12 @@ pub unsafe extern "C" fn pgk_lookup(table: *const u8, n: usize, line: u32, col: 
 
 #[unsafe(no_mangle)]
 pub unsafe extern "C" fn pgk_table_size(text: *const u8, n: usize) -> u64 {
-    answered(|r| unsafe { raw_pgk_table_size(r, &fat((text, n))) }).0[0]
+    unsafe { raw_pgk_table_size(&fat((text, n))) }
 }
 
 #[unsafe(no_mangle)]
 pub unsafe extern "C" fn pgk_meets_premises(table: *const u8, n: usize, sources: u32, names: u32) -> u64 {
-    answered(|r| unsafe { raw_pgk_meets_premises(r, &fat((table, n)), sources, names) }).0[0]
+    unsafe { raw_pgk_meets_premises(&fat((table, n)), sources, names) }
 }
 
 #[unsafe(no_mangle)]

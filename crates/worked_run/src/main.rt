@@ -12,6 +12,15 @@ fn print_number(n: u64, after: &[u8]) {
     io::write_all(1, after);
 }
 
+// The first n tokens, a line each.
+fn print_tokens(table: &[u32; PLACES * token::WIDTH], n: usize)
+    requires { ⌜ n ≤ 2 ⌝ }
+{
+    let mut out = [0u8; PLACES * lines::EACH];
+    let end = lines::put_tokens(table, n, &mut out, 0);
+    io::write_all(1, &out[..end]);
+}
+
 // What a decode in a mode gave.
 fn print_decoded(mode: &[u8], d: Decoded, table: &[u32; PLACES * token::WIDTH])
     requires { ⌜ d .tokens ≤ 2 ⌝ }
@@ -22,9 +31,7 @@ fn print_decoded(mode: &[u8], d: Decoded, table: &[u32; PLACES * token::WIDTH])
     print_number(code::number_of(code), b" ");
     print_number(d.tokens as u64, b" ");
     print_number(d.offset as u64, b"\n");
-    let mut out = [0u8; PLACES * lines::EACH];
-    let n = lines::put_tokens(table, d.tokens, &mut out, 0);
-    io::write_all(1, &out[..n]);
+    print_tokens(table, d.tokens);
 }
 
 fn lenient(text: &[u8], sources: u32, names: u32) {

@@ -163,8 +163,8 @@ pgk_encoded pgk_encode(const uint32_t *table, size_t table_len, pgk_chunk chunk,
 /* 1 where what pgk_encode writes of the whole table surely reads back (lenient mode, these counts) as that table,
  * else 0, also for a bad table: lines do not go back, ids are PGK_NONE or below their counts, no name stands
  * without a source, and a token without a source repeats the source position of the latest token with one
- * (0, 0 before any). A table that was decoded by these counts does, unless its text has 2^32 ';'; one that was made,
- * translated or composed need not. */
+ * (0, 0 before any). A table that was decoded by these counts should, unless its text has 2^32 ';' or gives more
+ * than 4294967294 tokens: that is no theorem, so ask. One that was made, translated or composed need not. */
 uint64_t pgk_meets_premises(const uint32_t *table, size_t table_len, uint32_t sources, uint32_t names);
 
 /* Adds line_offset to each generated line, and the other offsets to each id other than PGK_NONE. Refusals:

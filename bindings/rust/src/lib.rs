@@ -235,7 +235,8 @@ pub fn serialize_mappings(table: &[u32], chunk: TokenChunk, out: &mut [u8]) -> R
 /// that table: lines do not go back, ids are none or below their counts, no name stands without a source, and a token
 /// without a source repeats the source position of the latest token with one (0, 0 before any). `false` for a bad table.
 ///
-/// A table that was decoded by these counts meets them, unless its text has 2^32 `;`; one that was made, translated or
+/// A table that was decoded by these counts should meet them, unless its text has 2^32 `;` or gives more than
+/// 4,294,967,294 tokens: that is no theorem, so ask. One that was made, translated or
 /// composed need not.
 ///
 /// ```

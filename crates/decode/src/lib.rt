@@ -7,7 +7,6 @@ use code::Code;
 use step::Step;
 use value::Mode;
 ghost use mathlib.Core.Path.{_≡_};
-ghost use Rattle.digits.specs.Tables.{reading, shortReading};
 ghost use Rattle.step.specs.Step.{start};
 ghost use Rattle.decode.specs.Mapping.{Decodes};
 ghost use Rattle.value.specs.declared.Mode.{Mode};
@@ -34,23 +33,14 @@ fn begun() -> State
 }
 
 // Token by token, while there is a place.
-fn decode_with(
-    t: &[u8; 256],
-    u: &[u8; 256],
-    text: &[u8],
-    mode: Mode,
-    sources: u32,
-    names: u32,
-    table: &mut [u32],
-) -> Decoded
-    requires { ⌜ (now t ≡ reading) × (now u ≡ shortReading) ⌝ }
+fn decode_in(mode: Mode, text: &[u8], sources: u32, names: u32, table: &mut [u32]) -> Decoded
     ensures { λ r. ⌜ Decodes mode sources names (now (text .entry)) (now (table .entry)) r (now (table .exit)) ⌝ }
 {
     let room = token::places_in(table.len());
     let mut s = begun();
     let mut tokens: usize = 0;
     loop {
-        let next = step::next_token(t, u, text, mode, sources, names, s);
+        let next = step::next_token(text, mode, sources, names, s);
         match next {
             Step::Done => {
                 return Decoded {
@@ -81,15 +71,6 @@ fn decode_with(
             }
         }
     }
-}
-
-// A constant array is made anew at each use, so both tables are bound here, once a call, and lent down.
-fn decode_in(mode: Mode, text: &[u8], sources: u32, names: u32, table: &mut [u32]) -> Decoded
-    ensures { λ r. ⌜ Decodes mode sources names (now (text .entry)) (now (table .entry)) r (now (table .exit)) ⌝ }
-{
-    let t = digits::B64_DECODE;
-    let u = digits::B64_SHORT;
-    decode_with(&t, &u, text, mode, sources, names, table)
 }
 
 // Lenient: as the crate decodes.

@@ -1,4 +1,4 @@
--- What the table of one-digit values says of a byte. Assumes nothing.
+-- A byte as a value of one digit. Assumes nothing.
 use mathlib.Core.Path.{_≡_, refl, sym, _∙_}
 use mathlib.Core.Bool.{Bool, true, false}
 use Prim.Native.Nat.{ℕ, _+_, _-_, _/_, _%_, _<_, _≤_}
@@ -7,24 +7,20 @@ use lib.Dec.{eqb, ltb}
 use borrow.Author.Tests.{ltb-true}
 use Rattle.list.specs.Pick.{pick}
 use Rattle.digits.specs.Digits.{digitOf, isDelim}
-use Rattle.digits.specs.Tables.{shortOf}
-
--- the entry of the digit d of a value of one digit
-abbrev pub entry : ℕ → ℕ
-entry d = pick (eqb (d % 2) 1) (16 - d / 2) (16 + d / 2)
+use Rattle.digits.specs.Tables.{shortOf, stepOf}
 
 -- a value of one digit
 pub record One (b : ℕ) : Type 0 where
   pub delim : isDelim b ≡ false
   pub small : digitOf b < 32
-  pub is : shortOf b ≡ entry (digitOf b)
+  pub is : shortOf b ≡ stepOf (digitOf b)
   pub under : shortOf b < 32
 
 entry-under : (t : Bool) (d : ℕ) → d < 32 → pick t (16 - d / 2) (16 + d / 2) < 32
 entry-under true d h = omega arith
 entry-under false d h = omega arith
 
-one-by : (t u : Bool) (b : ℕ) → isDelim b ≡ t → ltb (digitOf b) 32 ≡ u → pick t 80 (pick u (entry (digitOf b)) 160) < 64 → One b
+one-by : (t u : Bool) (b : ℕ) → isDelim b ≡ t → ltb (digitOf b) 32 ≡ u → pick t 80 (pick u (stepOf (digitOf b)) 160) < 64 → One b
 unfolding shortOf
 one-by true u b p q h = absurd (omega arith)
 one-by false false b p q h = absurd (omega arith)

@@ -4,7 +4,7 @@ use mathlib.Core.Path.{_≡_, refl, sym, _∙_, ap, subst}
 use mathlib.Core.Bool.{Bool, true, false}
 use mathlib.Core.Logic.{_⊎_, inl, inr}
 use mathlib.Core.List.{List, [], _∷_}
-use Prim.Native.Nat.{ℕ, _<_, _≤_}
+use Prim.Native.Nat.{ℕ, _+_, _*_, _%_, _<_, _≤_}
 use native.Mathlib.Omega.{arith}
 use lib.Dec.{T, eqb, ltb, leb, eqb→eq, leb→le}
 use lib.ListN.{length, getD}
@@ -12,13 +12,8 @@ use borrow.Author.Tests.{eq-eqb}
 use Rattle.list.specs.Pick.{pick}
 use Rattle.list.proofs.Table.{both, at}
 use Rattle.digits.specs.Digits.{digitOf, isDelim, classOf, charOf}
-use Rattle.digits.specs.Tables.{reading, shortReading, writing, shortOf}
-
-rightRead : ℕ → ℕ → Bool
-rightRead k x = eqb x (classOf k)
-
-rightShort : ℕ → ℕ → Bool
-rightShort k x = eqb x (shortOf k)
+use Rattle.digits.specs.Tables.{writing}
+use Rattle.digits.proofs.Below as below
 
 rightWrite : ℕ → ℕ → Bool
 rightWrite k x = eqb x (charOf k)
@@ -26,14 +21,6 @@ rightWrite k x = eqb x (charOf k)
 -- reading inverts writing
 back : ℕ → ℕ → Bool
 back k x = eqb (classOf x) k
-
-pub reads : (b : ℕ) → b < 256 → getD reading b 0 ≡ classOf b
-unfolding reading rightRead classOf isDelim digitOf
-reads b h = eqb→eq (getD reading b 0) (classOf b) (at rightRead reading tt b h)
-
-pub shorts : (b : ℕ) → b < 256 → getD shortReading b 0 ≡ shortOf b
-unfolding shortReading rightShort shortOf isDelim digitOf
-shorts b h = eqb→eq (getD shortReading b 0) (shortOf b) (at rightShort shortReading tt b h)
 
 pub writes : (d : ℕ) → d < 64 → getD writing d 0 ≡ charOf d
 unfolding writing rightWrite charOf
@@ -53,12 +40,12 @@ pub record Digit (b : ℕ) : Type 0 where
   pub delim : isDelim b ≡ false
   pub is : classOf b ≡ digitOf b
 
-kind : ℕ → ℕ → Bool
-kind k x = ltb (digitOf k) 64
+kind : ℕ → Bool
+kind b = ltb (digitOf b) 64
 
 digit-small : (b : ℕ) → b < 256 → digitOf b < 64
-unfolding reading kind digitOf
-digit-small b h = leb→le _ _ (at kind reading tt b h)
+unfolding kind digitOf
+digit-small b h = leb→le _ _ (below.at kind 256 tt b h)
 
 by-kind : (t : Bool) (b : ℕ) → isDelim b ≡ t → digitOf b < 64 → Delim b ⊎ Digit b
 unfolding classOf
@@ -102,3 +89,22 @@ char d h =
     let q : T (pick (isDelim (charOf d)) false (eqb (digitOf (charOf d)) d)) = subst (λ (x : ℕ). T (pick (isDelim x) false (eqb (digitOf x) d))) (writes d h) p in
     let r = plain-of (isDelim (charOf d)) (charOf d) d refl q in
     record { delim = r .0; reads = r .1 }
+
+-- the number that the two delimiters alone have below 2
+abbrev pub agree : Bool → Bool → Bool
+agree true t = t
+agree false true = false
+agree false false = true
+
+pub agree-eq : (s t : Bool) → T (agree s t) → s ≡ t
+agree-eq true true h = refl
+agree-eq true false h = absurd h
+agree-eq false true h = absurd h
+agree-eq false false h = refl
+
+marked : ℕ → Bool
+marked b = agree (ltb ((b * 17 + 21) % 256) 2) (isDelim b)
+
+pub delim-mark : (b : ℕ) → b < 256 → ltb ((b * 17 + 21) % 256) 2 ≡ isDelim b
+unfolding marked isDelim
+delim-mark b h = agree-eq (ltb ((b * 17 + 21) % 256) 2) (isDelim b) (below.at marked 256 tt b h)

@@ -1,75 +1,22 @@
 // The sixty-four characters: what each byte reads as, and what each digit is written as.
 ghost use mathlib.Core.Path.{_≡_};
-ghost use Prim.Native.Nat.{_<_};
-ghost use Rattle.digits.specs.Digits.{classOf, charOf};
-ghost use Rattle.digits.specs.Tables.{reading, shortReading, writing, shortOf};
-
-// What each byte reads as: its digit, 0 to 63, or 64 for a delimiter.
-pub const B64_DECODE: [u8; 256] = *b"\
-    \x3f\x3f\x3f\x3f\x3f\x3f\x3f\x3f\x3f\x3f\x3f\x3f\x3f\x3f\x3f\x3f\
-    \x3f\x3f\x3f\x3f\x3f\x3f\x3f\x3f\x3f\x3f\x3f\x3f\x3f\x3f\x3f\x3f\
-    \x3f\x3f\x3f\x3f\x3f\x3f\x3f\x3f\x3f\x3f\x3f\x3e\x40\x3f\x3f\x3f\
-    \x34\x35\x36\x37\x38\x39\x3a\x3b\x3c\x3d\x3f\x40\x3f\x3f\x3f\x3f\
-    \x3f\x00\x01\x02\x03\x04\x05\x06\x07\x08\x09\x0a\x0b\x0c\x0d\x0e\
-    \x0f\x10\x11\x12\x13\x14\x15\x16\x17\x18\x19\x3f\x3f\x3f\x3f\x3f\
-    \x3f\x1a\x1b\x1c\x1d\x1e\x1f\x20\x21\x22\x23\x24\x25\x26\x27\x28\
-    \x29\x2a\x2b\x2c\x2d\x2e\x2f\x30\x31\x32\x33\x3f\x3f\x3f\x3f\x3f\
-    \x3f\x3f\x3f\x3f\x3f\x3f\x3f\x3f\x3f\x3f\x3f\x3f\x3f\x3f\x3f\x3f\
-    \x3f\x3f\x3f\x3f\x3f\x3f\x3f\x3f\x3f\x3f\x3f\x3f\x3f\x3f\x3f\x3f\
-    \x3f\x3f\x3f\x3f\x3f\x3f\x3f\x3f\x3f\x3f\x3f\x3f\x3f\x3f\x3f\x3f\
-    \x3f\x3f\x3f\x3f\x3f\x3f\x3f\x3f\x3f\x3f\x3f\x3f\x3f\x3f\x3f\x3f\
-    \x3f\x3f\x3f\x3f\x3f\x3f\x3f\x3f\x3f\x3f\x3f\x3f\x3f\x3f\x3f\x3f\
-    \x3f\x3f\x3f\x3f\x3f\x3f\x3f\x3f\x3f\x3f\x3f\x3f\x3f\x3f\x3f\x3f\
-    \x3f\x3f\x3f\x3f\x3f\x3f\x3f\x3f\x3f\x3f\x3f\x3f\x3f\x3f\x3f\x3f\
-    \x3f\x3f\x3f\x3f\x3f\x3f\x3f\x3f\x3f\x3f\x3f\x3f\x3f\x3f\x3f\x3f";
-
-// What each byte is as a value of one digit: 16 more than the value; 80 for a delimiter, 160 for any other byte.
-pub const B64_SHORT: [u8; 256] = *b"\
-    \xa0\xa0\xa0\xa0\xa0\xa0\xa0\xa0\xa0\xa0\xa0\xa0\xa0\xa0\xa0\xa0\
-    \xa0\xa0\xa0\xa0\xa0\xa0\xa0\xa0\xa0\xa0\xa0\xa0\xa0\xa0\xa0\xa0\
-    \xa0\xa0\xa0\xa0\xa0\xa0\xa0\xa0\xa0\xa0\xa0\xa0\x50\xa0\xa0\xa0\
-    \xa0\xa0\xa0\xa0\xa0\xa0\xa0\xa0\xa0\xa0\xa0\x50\xa0\xa0\xa0\xa0\
-    \xa0\x10\x10\x11\x0f\x12\x0e\x13\x0d\x14\x0c\x15\x0b\x16\x0a\x17\
-    \x09\x18\x08\x19\x07\x1a\x06\x1b\x05\x1c\x04\xa0\xa0\xa0\xa0\xa0\
-    \xa0\x1d\x03\x1e\x02\x1f\x01\xa0\xa0\xa0\xa0\xa0\xa0\xa0\xa0\xa0\
-    \xa0\xa0\xa0\xa0\xa0\xa0\xa0\xa0\xa0\xa0\xa0\xa0\xa0\xa0\xa0\xa0\
-    \xa0\xa0\xa0\xa0\xa0\xa0\xa0\xa0\xa0\xa0\xa0\xa0\xa0\xa0\xa0\xa0\
-    \xa0\xa0\xa0\xa0\xa0\xa0\xa0\xa0\xa0\xa0\xa0\xa0\xa0\xa0\xa0\xa0\
-    \xa0\xa0\xa0\xa0\xa0\xa0\xa0\xa0\xa0\xa0\xa0\xa0\xa0\xa0\xa0\xa0\
-    \xa0\xa0\xa0\xa0\xa0\xa0\xa0\xa0\xa0\xa0\xa0\xa0\xa0\xa0\xa0\xa0\
-    \xa0\xa0\xa0\xa0\xa0\xa0\xa0\xa0\xa0\xa0\xa0\xa0\xa0\xa0\xa0\xa0\
-    \xa0\xa0\xa0\xa0\xa0\xa0\xa0\xa0\xa0\xa0\xa0\xa0\xa0\xa0\xa0\xa0\
-    \xa0\xa0\xa0\xa0\xa0\xa0\xa0\xa0\xa0\xa0\xa0\xa0\xa0\xa0\xa0\xa0\
-    \xa0\xa0\xa0\xa0\xa0\xa0\xa0\xa0\xa0\xa0\xa0\xa0\xa0\xa0\xa0\xa0";
+ghost use Prim.Native.Nat.{_+_, _<_, _≤_};
+ghost use lib.ListN.{length, getD};
+ghost use Rattle.digits.specs.Digits.{classOf, charOf, isDelim};
+ghost use Rattle.digits.specs.Tables.{word, writing};
 
 // The characters of the digits 0 to 63.
 pub const B64_CHARS: [u8; 64] =
     *b"ABCDEFGHIJKLMNOPQRSTUVWXYZabcdefghijklmnopqrstuvwxyz0123456789+/";
 
-// A constant array is made anew at each use: an entry binds it once and lends it down.
-pub fn code_in(t: &[u8; 256], b: u8) -> u8
-    requires { ⌜ now t ≡ reading ⌝ }
-    ensures { λ r. ⌜ r ≡ classOf b ⌝ }
+// `,` or `;`: of the 256 numbers 17 b + 21, modulo 256, theirs are 1 and 0. One comparison, so that nothing branches on which it is.
+pub fn is_delim(b: u8) -> bool
+    ensures { λ r. ⌜ r ≡ isDelim b ⌝ }
 {
-    t[b as usize]
+    (b as u32 * 17 + 21) % 256 < 2
 }
 
-pub fn short_in(u: &[u8; 256], b: u8) -> u8
-    requires { ⌜ now u ≡ shortReading ⌝ }
-    ensures { λ r. ⌜ r ≡ shortOf b ⌝ }
-{
-    u[b as usize]
-}
-
-pub fn char_in(w: &[u8; 64], d: u64) -> u8
-    requires { ⌜ now w ≡ writing ⌝ }
-    requires { ⌜ d < 64 ⌝ }
-    ensures { λ r. ⌜ r ≡ charOf d ⌝ }
-{
-    w[d as usize]
-}
-
-// The rule of the reading table, by ranges: what a byte reads as with no table at hand.
+// What a byte reads as: its digit, 0 to 63, or 64 for a delimiter.
 pub fn code_of(b: u8) -> u8
     ensures { λ r. ⌜ r ≡ classOf b ⌝ }
 {
@@ -82,4 +29,27 @@ pub fn code_of(b: u8) -> u8
         59 => 64,
         _ => 63,
     }
+}
+
+fn joined(a: u8, b: u8, c: u8, d: u8) -> u32
+    ensures { λ r. ⌜ r ≡ word a b c d ⌝ }
+{
+    a as u32 + b as u32 * 256 + c as u32 * 65536 + d as u32 * 16777216
+}
+
+// Four bytes as one number, the first lowest, so that all can be compared with a range at once.
+pub fn four_of(s: &[u8], at: usize) -> u32
+    requires { ⌜ at + 4 ≤ length (now s) ⌝ }
+    ensures { λ r. ⌜ r ≡ word (getD (now (s .entry)) at 0) (getD (now (s .entry)) (at + 1) 0) (getD (now (s .entry)) (at + 2) 0) (getD (now (s .entry)) (at + 3) 0) ⌝ }
+{
+    joined(s[at], s[at + 1], s[at + 2], s[at + 3])
+}
+
+// A constant array is made anew at each use: an entry binds it once and lends it down.
+pub fn char_in(w: &[u8; 64], d: u64) -> u8
+    requires { ⌜ now w ≡ writing ⌝ }
+    requires { ⌜ d < 64 ⌝ }
+    ensures { λ r. ⌜ r ≡ charOf d ⌝ }
+{
+    w[d as usize]
 }

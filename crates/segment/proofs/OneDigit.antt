@@ -1,23 +1,19 @@
--- A field as the code reads it: by the second table where it has one digit, else by its bits. Assumes nothing.
+-- A field as the code reads it: at once where it is a capital, else by its bits. Assumes nothing.
 use mathlib.Core.Path.{_≡_, refl, sym, _∙_, ap}
-use mathlib.Core.Bool.{Bool, true, false}
 use mathlib.Core.List.{List}
-use Prim.Native.Nat.{ℕ, zero, suc, _+_, _-_, _/_, _%_, _^_, _<_, _≤_}
+use Prim.Native.Nat.{ℕ, _+_, _%_, _^_, _<_}
 use native.Mathlib.Omega.{arith}
-use lib.Dec.{eqb}
-use lib.IntN.{ℤ, pos, negsuc, negℤ, _-ℤ_}
+use lib.IntN.{ℤ}
 use lib.ListN.{length, getD, drop}
-use borrow.Author.Tests.{lt-ltb, le-ltb}
 use mir.Syntax.{w64}
 use mir.Val.{SFits, toZ, ofZ}
-use mir.ValLaws.{toZ-pos, toZ-ofZ}
-use Rattle.list.specs.Pick.{pick}
-use Rattle.digits.specs.Digits.{digitOf}
-use Rattle.digits.specs.Tables.{shortOf}
-use Rattle.digits.proofs.Shorts.{One, one, entry}
+use mir.ValLaws.{toZ-ofZ}
+use Rattle.digits.specs.Digits.{classOf, digitOf}
+use Rattle.digits.proofs.Ranges.{capital}
+use Rattle.digits.proofs.Tables.{Digit, is-digit}
 use Rattle.value.specs.Value.{valueOf}
 use Rattle.value.specs.declared.Mode.{Mode}
-use Rattle.value.proofs.Range.{value-small, value-range, small-fits}
+use Rattle.value.proofs.Range.{value-range, small-fits}
 use Rattle.vlq.specs.Vlq.{vlqAt}
 use Rattle.vlq.specs.declared.Vlq.{Vlq}
 use Rattle.vlq.specs.declared.Vlq.the-variants.{End, Value, Leftover, Overflow}
@@ -26,40 +22,30 @@ use Rattle.vlq.proofs.Values.{value-bits}
 use Rattle.segment.specs.Fields.{parsed, parsedAt}
 use Rattle.segment.specs.declared.Parsed.{Parsed}
 
-below : (m : ℕ) → m ≤ 16 → pos (16 - m) -ℤ pos 16 ≡ negℤ (pos m)
-below zero h = refl
-below (suc m) h = rw (lt-ltb (16 - suc m) 16 (omega arith)) (ap negsuc (omega arith))
-
-above : (m : ℕ) → pos (16 + m) -ℤ pos 16 ≡ pos m
-above m = rw (le-ltb (16 + m) 16 (omega arith)) (ap pos (omega arith))
-
-entry-by : (t : Bool) (d : ℕ) → d < 32 → pos (pick t (16 - d / 2) (16 + d / 2)) -ℤ pos 16 ≡ pick t (negℤ (pos (d / 2))) (pos (d / 2))
-entry-by true d h = below (d / 2) (omega arith)
-entry-by false d h = above (d / 2)
-
 module _ (mode : Mode) (s : List ℕ) (at : ℕ) where
   fits : (bits lost : ℕ) → bits < 2 ^ 64 → SFits w64 (valueOf mode bits lost)
   fits bits lost h = small-fits (valueOf mode bits lost) (value-range mode bits lost h)
 
-  -- e is what the second table gives for the byte
-  module _ (e : ℕ) (h : at < length s) (is : e ≡ shortOf (getD s at 0)) (l : e < 32) where
-    o : One (getD s at 0)
-    o = one (getD s at 0) (omega (arith, is, l))
+  -- d is what the byte has above `A`
+  module _ (d : ℕ) (h : at < length s) (is : (d + 65) % 2 ^ 8 ≡ getD s at 0) (l : d < 26) where
+    byte : getD s at 0 ≡ d + 65
+    byte = omega arith
 
-    step-is : toZ w64 e -ℤ pos 16 ≡ valueOf mode (digitOf (getD s at 0)) 0
-    step-is =
-        ap (λ (z : ℤ). z -ℤ pos 16) (toZ-pos w64 e (omega arith) ∙ ap pos (is ∙ o .is))
-        ∙ entry-by (eqb (digitOf (getD s at 0) % 2) 1) (digitOf (getD s at 0)) (o .small)
-        ∙ sym (value-small mode (digitOf (getD s at 0)) 0 (omega (arith, o .small)))
+    class : classOf (getD s at 0) ≡ d
+    class = capital (getD s at 0) (λ p. omega (arith, byte)) (λ p. omega (arith, byte)) (omega (arith, byte)) (omega (arith, byte)) ∙ omega (arith, byte)
 
-    pub step-fits : SFits w64 (toZ w64 e -ℤ pos 16)
-    step-fits = rw step-is (fits (digitOf (getD s at 0)) 0 (omega (arith, o .small)))
+    o : Digit (getD s at 0)
+    o = is-digit (getD s at 0) d (omega (arith, byte)) (sym class) (λ q. omega arith)
 
-    pub short-field : Parsed.Value (toZ w64 (ofZ w64 (toZ w64 e -ℤ pos 16))) (at + 1) ≡ parsedAt mode s at
+    digit : digitOf (getD s at 0) ≡ d
+    digit = sym (o .is) ∙ class
+
+    pub capital-field : (x : ℤ) → x ≡ valueOf mode d 0 → Parsed.Value (toZ w64 (ofZ w64 x)) (at + 1) ≡ parsedAt mode s at
     unfolding parsedAt
-    short-field =
-        ap (λ (z : ℤ). Parsed.Value z (at + 1)) (toZ-ofZ w64 (toZ w64 e -ℤ pos 16) step-fits ∙ step-is)
-        ∙ ap (parsed mode) (sym (one-digit s at h (o .delim) (o .small)))
+    capital-field x e =
+        ap (λ (z : ℤ). Parsed.Value z (at + 1))
+        (ap (λ (z : ℤ). toZ w64 (ofZ w64 z)) e ∙ toZ-ofZ w64 (valueOf mode d 0) (fits d 0 (omega arith)))
+        ∙ ap (parsed mode) (ap (λ (n : ℕ). Value n 0 (at + 1)) (sym digit) ∙ sym (one-digit s at h (o .delim) (omega (arith, digit))))
 
   -- v is what the reader gives
   module _ (v : Vlq) (is : v ≡ vlqAt s at) where

@@ -2,7 +2,6 @@
 use value::Mode;
 use vlq::Vlq;
 ghost use mathlib.Core.Path.{_≡_};
-ghost use Rattle.digits.specs.Tables.{reading, shortReading};
 ghost use Rattle.segment.specs.Segment.{brokenAt, segmentAt};
 ghost use Rattle.segment.specs.Fields.{parsedAt};
 
@@ -31,11 +30,10 @@ enum Parsed {
 }
 
 // The next value, in general.
-fn next_value(t: &[u8; 256], s: &[u8], mode: Mode, at: usize) -> Parsed
-    requires { ⌜ now t ≡ reading ⌝ }
+fn next_value(s: &[u8], mode: Mode, at: usize) -> Parsed
     ensures { λ r. ⌜ r ≡ parsedAt mode (now (s .entry)) at ⌝ }
 {
-    let v = vlq::next_vlq(t, s, at);
+    let v = vlq::next_vlq(s, at);
     match v {
         Vlq::End => Parsed::End,
         Vlq::Value(bits, lost, next) => Parsed::Value(value::value_of(mode, bits, lost), next),
@@ -44,19 +42,23 @@ fn next_value(t: &[u8; 256], s: &[u8], mode: Mode, at: usize) -> Parsed
     }
 }
 
-// The next value: one of one digit is its entry in the second table, less 16.
-fn next_field(t: &[u8; 256], u: &[u8; 256], s: &[u8], mode: Mode, at: usize) -> Parsed
-    requires { ⌜ (now t ≡ reading) × (now u ≡ shortReading) ⌝ }
+fn wide(x: u8) -> u64
+    ensures { λ r. ⌜ r ≡ x ⌝ }
+{
+    x as u64
+}
+
+// The next value. Most have one digit, and that is a capital.
+fn next_field(s: &[u8], mode: Mode, at: usize) -> Parsed
     ensures { λ r. ⌜ r ≡ parsedAt mode (now (s .entry)) at ⌝ }
 {
     if at < s.len() {
-        let e = digits::short_in(u, s[at]);
-        if e < 32 {
-            let x = e as i64;
-            return Parsed::Value(x - 16, at + 1);
+        let d = std::num::wrapping_sub_u8(s[at], 65);
+        if d < 26 {
+            return Parsed::Value(value::value_of(mode, wide(d), 0), at + 1);
         }
     }
-    next_value(t, s, mode, at)
+    next_value(s, mode, at)
 }
 
 // A segment of which a value broke.
@@ -72,8 +74,7 @@ fn broken(end: Ending, at: usize) -> Segment
     }
 }
 
-pub fn parse_vlq_segment(t: &[u8; 256], u: &[u8; 256], s: &[u8], mode: Mode, at: usize) -> Segment
-    requires { ⌜ (now t ≡ reading) × (now u ≡ shortReading) ⌝ }
+pub fn parse_vlq_segment(s: &[u8], mode: Mode, at: usize) -> Segment
     ensures { λ r. ⌜ r ≡ segmentAt mode (now (s .entry)) at ⌝ }
 {
     let mut nums = [0i64; 5];
@@ -81,7 +82,7 @@ pub fn parse_vlq_segment(t: &[u8; 256], u: &[u8; 256], s: &[u8], mode: Mode, at:
     let mut count: usize = 0;
     let mut i = at;
     loop {
-        let f = next_field(t, u, s, mode, i);
+        let f = next_field(s, mode, i);
         match f {
             Parsed::End => {
                 return Segment {

@@ -1,14 +1,20 @@
-// The short way: a segment of four or five values of one digit each. Its tests are sufficient and no more: whatever fails one
-// of them, and every refusal, is left to the general way.
+// The short way: a segment of four or five values of one digit each, of which the second is 0, as most are. Its tests are
+// sufficient and no more: whatever fails one of them, and every refusal, is left to the general way.
 use apply::State;
 ghost use mathlib.Core.Path.{_≡_};
 ghost use mathlib.Core.Bool.{true};
-ghost use Prim.Native.Nat.{_+_, _<_, _≤_};
+ghost use Prim.Native.Nat.{_+_, _-_, _*_, _<_, _≤_, _^_};
 ghost use lib.Dec.{eqb, ltb};
 ghost use lib.ListN.{length};
 ghost use Rattle.list.specs.Pick.{pick};
-ghost use Rattle.digits.specs.Tables.{shortReading};
-ghost use Rattle.short.specs.Short.{Shaped, Stepped, Nears, Fit};
+ghost use Rattle.short.specs.Short.{Bytes, Ones, Stepping, Reading, Shaped, Steps, Stepped, Nears, Fit};
+
+// How many fields there are, 0 where they are perhaps not of this shape. The steps are 16 more than a value each: a byte for
+// the first field, the fifth, the third and the fourth; 16 for the fifth where there are four.
+pub struct Shape {
+    pub fields: usize,
+    pub steps: u32,
+}
 
 // The five running numbers after values of one digit; 2^32 or more where a sum leaves 0 to 4,294,967,295.
 pub struct Near {
@@ -19,101 +25,133 @@ pub struct Near {
     pub name_id: u64,
 }
 
-fn wide(x: u8) -> u64
-    ensures { λ r. ⌜ r ≡ x ⌝ }
+// The digits of four bytes, given what each has above `A`; 4,294,967,295 where one is not `A` to `Z` or `a` to `f`. The latter
+// have 32 to 37 above `A`: with 12 less they have to be below 26 as well, and with 6 less they are the digits 26 to 31.
+fn four_digits(t: u32) -> u32
+    ensures { λ r. ⌜ (r < 4294967295 → Ones t r) ⌝ }
 {
-    x as u64
+    let high = t & 0x80808080;
+    if high != 0 {
+        return 4294967295;
+    }
+    let twelves = (t & 0x20202020) / 8 * 3;
+    let v = t - twelves;
+    let over = (v + 0x66666666) & 0x80808080;
+    if over != 0 {
+        return 4294967295;
+    }
+    v + twelves / 2
 }
 
-fn five_or_four(e: u8) -> usize
-    ensures { λ r. ⌜ r ≡ pick (ltb e 64) 5 4 ⌝ }
+// The steps of four digits: half of each, added to 16 or, where the digit is odd, taken from it.
+fn four_steps(d: u32) -> u32
+    requires { ⌜ Bytes 32 d ⌝ }
+    ensures { λ r. ⌜ Stepping d r ⌝ }
 {
-    if e < 64 {
-        return 5;
-    }
-    4
+    let odd = d & 0x01010101;
+    let half = (d - odd) / 2;
+    half + 0x10101010 - 2 * (half & (odd * 15))
 }
 
-// 4 or 5: so many fields of one digit each stand here, and a delimiter after them. 0: perhaps not.
-pub fn try_fast_4_or_5_segment(u: &[u8; 256], s: &[u8], at: usize) -> usize
-    requires { ⌜ (now u ≡ shortReading) × (at + 6 ≤ length (now s)) ⌝ }
-    ensures { λ r. ⌜ (0 < r → Shaped (now (s .entry)) at r) ⌝ }
+// The steps of four bytes; 0 where one has no value of one digit.
+fn steps_of(w: u32) -> u32
+    ensures { λ r. ⌜ Reading w r ⌝ }
 {
-    if 32 <= digits::short_in(u, s[at]) {
-        return 0;
-    }
-    if 32 <= digits::short_in(u, s[at + 1]) {
-        return 0;
-    }
-    if 32 <= digits::short_in(u, s[at + 2]) {
-        return 0;
-    }
-    if 32 <= digits::short_in(u, s[at + 3]) {
-        return 0;
-    }
-    let e = digits::short_in(u, s[at + 4]);
-    if 128 <= e {
-        return 0;
-    }
-    let k = five_or_four(e);
-    if digits::short_in(u, s[at + k]) == 80 {
-        return k;
+    let d = four_digits(std::num::wrapping_sub_u32(w, 0x41414141));
+    if d < 4294967295 {
+        return four_steps(d);
     }
     0
 }
 
-// A running number after a step of one digit: `e` is 16 more than the step, and 80 steps by 0.
-fn moved_by(base: u32, e: u8) -> u64
-    ensures { λ r. ⌜ Stepped r base e ⌝ }
+fn five_or_four(b: u8) -> usize
+    ensures { λ r. ⌜ r ≡ pick (ltb b 60) 4 5 ⌝ }
 {
-    std::num::wrapping_add_u64(base as u64 + wide(e) % 32, 18446744073709551600)
+    if b < 60 {
+        return 4;
+    }
+    5
 }
 
-pub fn near_all(u: &[u8; 256], s: &[u8], st: State) -> Near
-    requires { ⌜ (now u ≡ shortReading) × (st .at + 6 ≤ length (now s)) ⌝ }
+// The fifth byte, or `A`, which steps by 0, in the place of a delimiter.
+fn fifth(b: u8) -> u32
+    ensures { λ r. ⌜ r ≡ pick (ltb b 60) 65 b ⌝ }
+{
+    if b < 60 {
+        return 65;
+    }
+    b as u32
+}
+
+// Four bytes of which the second is `A`, with another in its place.
+fn with_second(w: u32, x: u32) -> u32
+    requires { ⌜ (16640 ≤ w) × (w - 16640 + x * 256 < 2 ^ 32) ⌝ }
+    ensures { λ r. ⌜ r ≡ w - 16640 + x * 256 ⌝ }
+{
+    w - 16640 + x * 256
+}
+
+// The delimiter is looked for first: where it stands, nearly every segment is of this shape.
+pub fn try_fast_4_or_5_segment(s: &[u8], at: usize) -> Shape
+    requires { ⌜ at + 6 ≤ length (now s) ⌝ }
+    ensures { λ r. ⌜ (0 < r .fields → Shaped (now (s .entry)) at (r .fields) × Steps (now (s .entry)) at (r .steps)) ⌝ }
+{
+    let b = s[at + 4];
+    let fields = five_or_four(b);
+    if digits::is_delim(s[at + fields]) {
+        if s[at + 1] == 65 {
+            let steps = steps_of(with_second(digits::four_of(s, at), fifth(b)));
+            if 0 < steps {
+                return Shape { fields, steps };
+            }
+        }
+    }
+    Shape {
+        fields: 0,
+        steps: 0,
+    }
+}
+
+// A running number after a step of one digit: `e` is 16 more than the step.
+fn moved_by(base: u32, e: u32) -> u64
+    ensures { λ r. ⌜ (r < 2 ^ 32 → r + 16 ≡ base + e) ⌝ }
+{
+    std::num::wrapping_add_u64(base as u64 + e as u64, 18446744073709551600)
+}
+
+pub fn near_all(s: &[u8], steps: u32, st: State) -> Near
+    requires { ⌜ Steps (now s) (st .at) steps ⌝ }
     ensures { λ r. ⌜ Nears (now (s .entry)) st r ⌝ }
 {
-    let at = st.at;
     Near {
-        dst_col: moved_by(st.dst_col, digits::short_in(u, s[at])),
-        source_id: moved_by(st.source_id, digits::short_in(u, s[at + 1])),
-        src_line: moved_by(st.src_line, digits::short_in(u, s[at + 2])),
-        src_col: moved_by(st.src_col, digits::short_in(u, s[at + 3])),
-        name_id: moved_by(st.name_id, digits::short_in(u, s[at + 4])),
+        dst_col: moved_by(st.dst_col, steps % 256),
+        source_id: st.source_id as u64,
+        src_line: moved_by(st.src_line, steps / 65536 % 256),
+        src_col: moved_by(st.src_col, steps / 16777216),
+        name_id: moved_by(st.name_id, steps / 256 % 256),
     }
 }
 
-// One more than the largest name id, and at least 1.
-fn most(names: u32) -> u64
-    ensures { λ r. ⌜ r ≡ pick (eqb names 0) 1 names ⌝ }
+// What the name's sum must be below: 2^32 where there is no name, since its step is 0 then.
+fn most(k: usize, names: u32) -> u64
+    ensures { λ r. ⌜ r ≡ pick (eqb k 5) «names» 4294967296 ⌝ }
 {
-    if names == 0 {
-        return 1;
+    if k == 5 {
+        return names as u64;
     }
-    names as u64
+    4294967296
 }
 
-// Whether every sum may be taken. The name's is tested for four fields too, where its step is 0: no branch on the field count.
+// Whether every sum may be taken.
 pub fn fits(n: Near, k: usize, sources: u32, names: u32) -> bool
     ensures { λ r. ⌜ (r ≡ true → Fit n k sources names) ⌝ }
 {
-    if 4294967296 <= n.dst_col {
+    let all = n.dst_col | n.src_line | n.src_col;
+    if 4294967296 <= all {
         return false;
     }
     if sources as u64 <= n.source_id {
         return false;
     }
-    if 4294967296 <= n.src_line {
-        return false;
-    }
-    if 4294967296 <= n.src_col {
-        return false;
-    }
-    if most(names) <= n.name_id {
-        return false;
-    }
-    if names == 0 {
-        return k == 4;
-    }
-    true
+    n.name_id < most(k, names)
 }

@@ -12,8 +12,7 @@ use lib.Seq.{drop-cons}
 use borrow.Author.Tests.{eq-eqb, ne-eqb, eqb-true, eqb-false}
 use Rattle.list.specs.Pick.{pick}
 use Rattle.code.specs.declared.Code.{Code}
-use Rattle.digits.specs.Digits.{classOf, isDelim}
-use Rattle.digits.proofs.Tables.{Delim, Digit, is-digit, code-cases}
+use Rattle.digits.specs.Digits.{isDelim}
 use Rattle.value.specs.declared.Mode.{Mode}
 use Rattle.segment.specs.Segment.{segmentOf, segmentAt, fieldsFrom}
 use Rattle.segment.specs.declared.Ending.{Ending}
@@ -66,10 +65,10 @@ neither b q = neither-by (eqb b 44) (eqb b 59) q
 not-both : (b : ℕ) → eqb b 44 ≡ true → eqb b 59 ≡ true → ⊥
 not-both b p q = let x = eqb-true b 44 p in let y = eqb-true b 59 q in omega arith
 
--- the table's entry of a delimiter is 64, the largest
-delimited : (b : ℕ) → b < 256 → (d : ℕ) → d ≡ classOf b → 64 ≤ d → pick (eqb b 44) true (eqb b 59) ≡ true
+-- both delimiters are below 60
+pub above : (b : ℕ) → 60 ≤ b → false ≡ isDelim b
 unfolding isDelim
-delimited b h d e l = ⊎-elim (λ k. k .delim) (λ k. absurd (omega (arith, k .small))) (code-cases b h)
+above b h = sym (rw (ne-eqb b 44 (λ e. omega arith), ne-eqb b 59 (λ e. omega arith)))
 
 -- ---- the loop: what is left from st on is what was left at the start
 pub record Coming (mode : Mode) (sources names : ℕ) (text : List ℕ) (from st : State) : Type 0 where
@@ -83,15 +82,15 @@ module _ (mode : Mode) (sources names : ℕ) (text : List ℕ) (from st : State)
   unfolding stepFrom
   ends h = sym (c .is ∙ rw (drop-of-length-le text h))
 
-  -- b is the byte at the place, d what the table has for it
-  module _ (h : st .at < length text) (b : ℕ) (eb : b ≡ getD text (st .at) 0) (hb : b < 256) (d : ℕ) (ed : d ≡ classOf b) where
+  -- b is the byte at the place, d whether it is a delimiter
+  module _ (h : st .at < length text) (b : ℕ) (eb : b ≡ getD text (st .at) 0) (d : Bool) (ed : d ≡ isDelim b) where
     headed : drop (st .at) text ≡ b ∷ drop (st .at + 1) text
     headed = rw (eb, add-one (st .at)) (drop-cons text (st .at) 0 h)
 
-    pub segment-at : d < 64 → (r : Step) → r ≡ segmentedAt mode sources names text st → r ≡ stepAt mode sources names text from
+    pub segment-at : d ≡ false → (r : Step) → r ≡ segmentedAt mode sources names text st → r ≡ stepAt mode sources names text from
     unfolding stepFrom segmentAt
     segment-at l r er =
-        let n = neither b (is-digit b d hb ed (λ q. omega arith) .delim) in
+        let n = neither b (sym ed ∙ l) in
         er ∙ rw headed (sym (c .is ∙ rw (headed, n .0, n .1)))
 
     crossed-by : (t u : Bool) → eqb b 44 ≡ t → eqb b 59 ≡ u → pick t true u ≡ true → (r : State) → r ≡ pick u (lined st) (commaed st)
@@ -102,9 +101,9 @@ module _ (mode : Mode) (sources names : ℕ) (text : List ℕ) (from st : State)
     crossed-by false true p q w r er = c .is ∙ rw (headed, p, q, er)
     crossed-by false false p q w r er = absurd (yes-no w)
 
-    pub crosses : 64 ≤ d → (r : State) → r ≡ pick (eqb b 59) (lined st) (commaed st) → Coming mode sources names text from r
+    pub crosses : d ≡ true → (r : State) → r ≡ pick (eqb b 59) (lined st) (commaed st) → Coming mode sources names text from r
     unfolding isDelim
-    crosses l r er = record { is = crossed-by (eqb b 44) (eqb b 59) refl refl (delimited b hb d ed l) r er }
+    crosses l r er = record { is = crossed-by (eqb b 44) (eqb b 59) refl refl (sym ed ∙ l) r er }
 
     pub less : (r : State) → r ≡ pick (eqb b 59) (lined st) (commaed st) → length text - r .at < length text - st .at
     less r er = omega (arith, moved-on (eqb b 59) r er)

@@ -10,7 +10,7 @@ use lib.Dec.{eqb}
 use lib.ListN.{length, drop, getD}
 use borrow.Author.Tests.{lt-ltb, eq-eqb, ne-eqb}
 use Rattle.digits.specs.Digits.{digitOf, isDelim}
-use Rattle.digits.specs.Tables.{shortOf}
+use Rattle.digits.specs.Tables.{shortOf, stepOf}
 use Rattle.value.specs.Value.{valueOf}
 use Rattle.value.specs.declared.Mode.{Mode}
 use Rattle.vlq.specs.declared.Vlq.the-variants.{End, Value}
@@ -25,7 +25,7 @@ use Rattle.apply.specs.declared.Applied.{Applied}
 use Rattle.apply.proofs.Takes.{takes-four, takes-five}
 use Rattle.short.specs.Short.{Shaped, Stepped, Nears, Fit}
 use Rattle.short.specs.declared.Near.{Near}
-use Rattle.digits.proofs.Shorts.{One, one, delim, entry}
+use Rattle.digits.proofs.Shorts.{One, one, delim}
 use Rattle.short.proofs.Laws.{shaped-few}
 use Rattle.step.specs.Step.{segmentStep}
 use Rattle.step.specs.Ways.{segmentedAt, shortStep}
@@ -80,8 +80,8 @@ module _ (mode : Mode) (text : List ℕ) where
         rw (a, z) at (reads at k 0 ones d (omega (arith, few)))
 
     -- the i-th step: x is the running number after it
-    entry-is : (j base x : ℕ) → j < k → x + 16 ≡ base + shortOf (getD text (at + j) 0) % 32 → x + 16 ≡ base + entry (digitOf (getD text (at + j) 0)) % 32
-    entry-is j base x l e = e ∙ ap (λ (y : ℕ). base + y % 32) (ones j (omega arith) .is)
+    step-is : (j base x : ℕ) → j < k → x + 16 ≡ base + shortOf (getD text (at + j) 0) % 32 → x + 16 ≡ base + stepOf (digitOf (getD text (at + j) 0)) % 32
+    step-is j base x l e = e ∙ ap (λ (y : ℕ). base + y % 32) (ones j (omega arith) .is)
 
     small : (j : ℕ) → j < k → digitOf (getD text (at + j) 0) < 32
     small j l = ones j (omega arith) .small
@@ -92,9 +92,9 @@ module _ (mode : Mode) (text : List ℕ) where
     at = st .at
 
     step-at : (k : ℕ) (s : Shaped text at k) (j base x : ℕ) → j < k → x < 2 ^ 32 → Stepped x base (shortOf (getD text (at + j) 0))
-        → (digitOf (getD text (at + j) 0) < 32) × (x + 16 ≡ base + entry (digitOf (getD text (at + j) 0)) % 32)
+        → (digitOf (getD text (at + j) 0) < 32) × (x + 16 ≡ base + stepOf (digitOf (getD text (at + j) 0)) % 32)
     unfolding at
-    step-at k s j base x l b e = (small at k s h j l, entry-is at k s h j base x l (e b))
+    step-at k s j base x l b e = (small at k s h j l, step-is at k s h j base x l (e b))
 
     col₀ : Stepped (n .«dst_col») (st .«dst_col») (shortOf (getD text (at + 0) 0))
     unfolding at

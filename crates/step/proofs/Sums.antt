@@ -1,4 +1,4 @@
--- A running number after a value of one digit, by the table's entry. Assumes nothing.
+-- A running number after a value of one digit, by its step. Assumes nothing.
 use mathlib.Core.Path.{_≡_, refl, sym, _∙_, ap}
 use mathlib.Core.Bool.{Bool, true, false}
 use Prim.Native.Nat.{ℕ, zero, suc, _+_, _-_, _/_, _%_, _^_, _<_, _≤_}
@@ -15,7 +15,7 @@ use Rattle.value.proofs.Range.{value-small}
 use Rattle.sums.specs.Sums.{reducedOf, sumOf, idOf, nameSumOf}
 use Rattle.sums.specs.declared.Kept.{Kept}
 use Rattle.sums.specs.declared.Id.{Id}
-use Rattle.digits.proofs.Shorts.{entry}
+use Rattle.digits.specs.Tables.{stepOf}
 
 down : (x base m : ℕ) → x + m ≡ base → pos base +ℤ negℤ (pos m) ≡ pos x
 down x base zero e = ap pos (omega arith)
@@ -26,7 +26,7 @@ by-sign : (t : Bool) (x base d : ℕ) → d < 32 → x + 16 ≡ base + pick t (1
 by-sign true x base d h e = down x base (d / 2) (omega arith)
 by-sign false x base d h e = ap pos (omega arith)
 
-module _ (mode : Mode) (x base d : ℕ) (h : d < 32) (e : x + 16 ≡ base + entry d % 32) where
+module _ (mode : Mode) (x base d : ℕ) (h : d < 32) (e : x + 16 ≡ base + stepOf d % 32) where
   sum : pos base +ℤ valueOf mode d 0 ≡ pos x
   sum = rw (value-small mode d 0 (omega arith)) (by-sign (eqb (d % 2) 1) x base d h e)
 

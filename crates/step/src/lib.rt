@@ -13,7 +13,7 @@ ghost use lib.ListN.{length};
 ghost use lib.Dec.{eqb};
 ghost use Rattle.list.specs.Pick.{pick};
 ghost use Rattle.token.specs.Table.{noId};
-ghost use Rattle.digits.specs.Tables.{reading, shortReading};
+ghost use Rattle.digits.specs.Digits.{isDelim};
 ghost use Rattle.step.specs.Step.{commaed, lined, offsetOf, stepped, stepAt};
 ghost use Rattle.step.specs.Ways.{segmentedAt, shortStep};
 ghost use Rattle.short.specs.Short.{Fit};
@@ -43,18 +43,15 @@ fn step_of(begin: usize, starts: [usize; 5], a: Applied) -> Step
 
 // A segment in general.
 fn general_step(
-    t: &[u8; 256],
-    u: &[u8; 256],
     s: &[u8],
     mode: Mode,
     sources: u32,
     names: u32,
     st: State,
 ) -> Step
-    requires { ⌜ (now t ≡ reading) × (now u ≡ shortReading) ⌝ }
     ensures { λ r. ⌜ r ≡ segmentedAt mode sources names (now (s .entry)) st ⌝ }
 {
-    let g = segment::parse_vlq_segment(t, u, s, mode, st.at);
+    let g = segment::parse_vlq_segment(s, mode, st.at);
     let end = g.end;
     let starts = g.starts;
     match end {
@@ -110,31 +107,39 @@ fn short_step(st: State, n: Near, k: usize, sources: u32, names: u32) -> Step
 
 // One segment: by the short way where its tests hold, else, and for every refusal, in general.
 fn segment_step(
-    t: &[u8; 256],
-    u: &[u8; 256],
     s: &[u8],
     mode: Mode,
     sources: u32,
     names: u32,
     st: State,
 ) -> Step
-    requires { ⌜ (now t ≡ reading) × ((now u ≡ shortReading) × (st .at < length (now s))) ⌝ }
+    requires { ⌜ st .at < length (now s) ⌝ }
     ensures { λ r. ⌜ r ≡ segmentedAt mode sources names (now (s .entry)) st ⌝ }
 {
     let at = st.at;
-    if 6 <= s.len() - at {
-        let k = short::try_fast_4_or_5_segment(u, s, at);
+    if at + 6 <= s.len() {
+        let shape = short::try_fast_4_or_5_segment(s, at);
+        let k = shape.fields;
         if 0 < k {
-            let n = short::near_all(u, s, st);
+            let n = short::near_all(s, shape.steps, st);
             if short::fits(n, k, sources, names) {
                 return short_step(st, n, k, sources, names);
             }
         }
     }
-    general_step(t, u, s, mode, sources, names, st)
+    general_step(s, mode, sources, names, st)
 }
 
-// `,` or `;`
+// `,` or `;`. Most segments begin with a letter, which is above both.
+fn between(b: u8) -> bool
+    ensures { λ r. ⌜ r ≡ isDelim b ⌝ }
+{
+    if 60 <= b {
+        return false;
+    }
+    digits::is_delim(b)
+}
+
 fn crossed(st: State, b: u8) -> State
     requires { ⌜ st .at + 1 < 2 ^ 64 ⌝ }
     ensures { λ r. ⌜ r ≡ pick (eqb b 59) (lined st) (commaed st) ⌝ }
@@ -151,29 +156,22 @@ fn crossed(st: State, b: u8) -> State
 
 // The next token from the state's place on.
 pub fn next_token(
-    t: &[u8; 256],
-    u: &[u8; 256],
     s: &[u8],
     mode: Mode,
     sources: u32,
     names: u32,
     from: State,
 ) -> Step
-    requires { ⌜ (now t ≡ reading) × (now u ≡ shortReading) ⌝ }
     ensures { λ r. ⌜ r ≡ stepAt mode sources names (now (s .entry)) from ⌝ }
 {
     let mut st = from;
     while st.at < s.len() {
         let at = st.at;
         let b = s[at];
-        let class = digits::code_in(t, b);
-        match class {
-            0..=63 => {
-                return segment_step(t, u, s, mode, sources, names, st);
-            }
-            _ => {
-                st = crossed(st, b);
-            }
+        if between(b) {
+            st = crossed(st, b);
+        } else {
+            return segment_step(s, mode, sources, names, st);
         }
     }
     Step::Done

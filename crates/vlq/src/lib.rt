@@ -6,7 +6,6 @@ ghost use lib.Dec.{eqb, ltb};
 ghost use lib.ListN.{length, getD};
 ghost use Rattle.list.specs.Pick.{pick};
 ghost use Rattle.digits.specs.Digits.{isDelim};
-ghost use Rattle.digits.specs.Tables.{reading};
 ghost use Rattle.vlq.specs.Vlq.{vlqAt};
 ghost use Rattle.vlq.specs.Several.{FewAt};
 
@@ -72,14 +71,14 @@ fn more(d: u64) -> usize
 
 // A number of two, three or four digits. How many they are is as good as random, so that it is data and no branch. The tests are
 // sufficient and no more.
-fn few_digits(t: &[u8; 256], s: &[u8], at: usize) -> Few
-    requires { ⌜ (now t ≡ reading) × ((at + 4 ≤ length (now s)) × (isDelim (getD (now s) at 0) ≡ false)) ⌝ }
+fn few_digits(s: &[u8], at: usize) -> Few
+    requires { ⌜ (at + 4 ≤ length (now s)) × (isDelim (getD (now s) at 0) ≡ false) ⌝ }
     ensures { λ r. ⌜ (r .count ≤ 4) × FewAt (now (s .entry)) at (r .bits) (r .count) ⌝ }
 {
-    let a = wide(digits::code_in(t, s[at]));
-    let b = wide(digits::code_in(t, s[at + 1]));
-    let c = held(b, wide(digits::code_in(t, s[at + 2])));
-    let d = held(c, wide(digits::code_in(t, s[at + 3])));
+    let a = wide(digits::code_of(s[at]));
+    let b = wide(digits::code_of(s[at + 1]));
+    let c = held(b, wide(digits::code_of(s[at + 2])));
+    let d = held(c, wide(digits::code_of(s[at + 3])));
     if b < 64 {
         if c < 64 {
             if d < 32 {
@@ -96,18 +95,17 @@ fn few_digits(t: &[u8; 256], s: &[u8], at: usize) -> Few
 }
 
 // At most thirteen digits. A delimiter or the end where a digit is due comes before a fourteenth.
-pub fn next_vlq(t: &[u8; 256], s: &[u8], at: usize) -> Vlq
-    requires { ⌜ now t ≡ reading ⌝ }
+pub fn next_vlq(s: &[u8], at: usize) -> Vlq
     ensures { λ r. ⌜ r ≡ vlqAt (now (s .entry)) at ⌝ }
 {
     if s.len() <= at {
         return Vlq::End;
     }
-    if digits::code_in(t, s[at]) == 64 {
+    if digits::code_of(s[at]) == 64 {
         return Vlq::End;
     }
     if 4 <= s.len() - at {
-        let few = few_digits(t, s, at);
+        let few = few_digits(s, at);
         if 0 < few.count {
             return Vlq::Value(few.bits, 0, at + few.count);
         }
@@ -116,7 +114,7 @@ pub fn next_vlq(t: &[u8; 256], s: &[u8], at: usize) -> Vlq
     let mut k: u64 = 0;
     let mut i = at;
     while i < s.len() {
-        let d = digits::code_in(t, s[i]);
+        let d = digits::code_of(s[i]);
         if d == 64 {
             return Vlq::Leftover(i);
         }

@@ -1,19 +1,88 @@
 -- `decode::decode_in` meets its contract. Assumes nothing.
-use mathlib.Core.Path.{refl}
-use Rattle.digits.specs.Tables.{reading, shortReading}
 use borrow.Author.Needs.{needs}
+use mathlib.Core.Path.{sym, _∙_}
+use Prim.Native.Nat.{_-_}
+use Rattle.decode.proofs.Turn.{Sofar, begin, long, ended, refused, no-place, place, less, put}
 use Rattle.decode.proofs.decode_in.Statement.{statement}
 use Rattle.decode.proofs.decode_in.Tie as tie
 
-decode-with-requires : tie.Need-decode-with-requires
-unfolding reading shortReading
-decode-with-requires c κs = (refl, refl)
+abbrev Inv-loop : tie.InvT-loop
+Inv-loop mode text sources names table₀ room s₀ tokens₀ table s tokens = Sofar mode sources names text table₀ table s tokens
 
-same-length : tie.Need-same-length
-same-length c = search needs
+abbrev μ-loop : tie.MeasureT-loop
+μ-loop mode text sources names table₀ room s₀ tokens₀ table s tokens = room - tokens
 
-returns : tie.Need-returns
-returns c = search needs
+places-in-requires : tie.Need-places-in-requires Inv-loop μ-loop
+places-in-requires c κs = search needs
+
+begun-requires : tie.Need-begun-requires Inv-loop μ-loop
+begun-requires c κs = search needs
+
+loop-holds : tie.Need-loop-holds Inv-loop μ-loop
+loop-holds c = begin _ _ _ _ _ _ (c .begun .ensures)
+
+next-token-requires : tie.Need-next-token-requires Inv-loop μ-loop
+next-token-requires c κs = search needs
+
+enum-told : tie.Need-enum-told Inv-loop μ-loop
+enum-told c = c .match .keys1
+
+same-length : tie.Need-same-length Inv-loop μ-loop
+same-length c = long _ _ _ _ _ _ _ _ (c .before .before .before .loop .inv)
+
+returns : tie.Need-returns Inv-loop μ-loop
+returns c = ended _ _ _ _ _ _ _ _ (c .before .before .before .loop .inv) (sym (c .enum-told .given .1) ∙ c .before .before .next-token .ensures)
+
+enum-known-next : tie.Need-enum-known-next Inv-loop μ-loop
+enum-known-next c = c .match .keys2
+
+same-length-2 : tie.Need-same-length-2 Inv-loop μ-loop
+same-length-2 c = long _ _ _ _ _ _ _ _ (c .before .before .before .before .loop .inv)
+
+returns-2 : tie.Need-returns-2 Inv-loop μ-loop
+returns-2 c = refused _ _ _ _ _ _ _ _ (c .before .before .before .before .loop .inv) _ _ (sym (c .before .next .given .1) ∙ c .before .before .before .next-token .ensures)
+
+enum-known-next-2 : tie.Need-enum-known-next-2 Inv-loop μ-loop
+enum-known-next-2 c = c .match .keys3
+
+put-token-requires : tie.Need-put-token-requires Inv-loop μ-loop
+put-token-requires c κs = place _ _ _ _ _ _ _ _ (c .before .before .before .before .before .before .loop .inv) _ _ _ (sym (c .before .before .before .next2 .given .1) ∙ c .before .before .before .before .before .next-token .ensures) _ (c .before .before .before .before .before .before .before .before .places-in .ensures) (c .before .if1 .taken)
+
+add-tokens : tie.Need-add-tokens Inv-loop μ-loop
+add-tokens c = search needs
+
+loop-less : tie.Need-loop-less Inv-loop μ-loop
+loop-less c = less _ _ _ _ _ _ _ _ (c .before .before .before .before .before .before .before .before .before .loop .inv) _ _ _ (sym (c .before .before .before .before .before .before .next2 .given .1) ∙ c .before .before .before .before .before .before .before .before .next-token .ensures) _ (c .before .before .before .before .before .before .before .before .before .before .before .places-in .ensures) (c .before .before .before .before .if1 .taken)
+
+loop-again : tie.Need-loop-again Inv-loop μ-loop
+loop-again c = put _ _ _ _ _ _ _ _ (c .before .before .before .before .before .before .before .before .before .loop .inv) _ _ _ (sym (c .before .before .before .before .before .before .next2 .given .1) ∙ c .before .before .before .before .before .before .before .before .next-token .ensures) _ (c .before .before .before .before .before .before .before .before .before .before .before .places-in .ensures) (c .before .before .before .before .if1 .taken) _ (c .before .before .put-token .ensures)
+
+same-length-3 : tie.Need-same-length-3 Inv-loop μ-loop
+same-length-3 c = long _ _ _ _ _ _ _ _ (c .before .before .before .before .before .loop .inv)
+
+returns-3 : tie.Need-returns-3 Inv-loop μ-loop
+returns-3 c = no-place _ _ _ _ _ _ _ _ (c .before .before .before .before .before .loop .inv) _ _ _ (sym (c .before .before .next2 .given .1) ∙ c .before .before .before .before .next-token .ensures) _ (c .before .before .before .before .before .before .before .places-in .ensures) (c .if1 .left)
 
 pub decode-in-spec : {M : Type 1} → statement M
-decode-in-spec = tie.close (tie.spec decode-with-requires same-length returns)
+decode-in-spec =
+    tie.close
+    (tie.spec
+    Inv-loop
+    μ-loop
+    places-in-requires
+    begun-requires
+    loop-holds
+    next-token-requires
+    enum-told
+    same-length
+    returns
+    enum-known-next
+    same-length-2
+    returns-2
+    enum-known-next-2
+    put-token-requires
+    add-tokens
+    loop-less
+    loop-again
+    same-length-3
+    returns-3)

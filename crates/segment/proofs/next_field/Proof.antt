@@ -1,27 +1,32 @@
 -- `segment::next_field` meets its contract. Assumes nothing.
-use denote.Ref.{now}
-use Rattle.segment.proofs.OneDigit.{step-fits, short-field}
+use mathlib.Core.Path.{ap, _∙_}
+use lib.IntN.{ℤ}
+use Prim.Native.Nat.{ℕ}
+use Rattle.value.specs.Value.{valueOf}
+use Rattle.segment.proofs.OneDigit.{capital-field}
 use borrow.Author.Needs.{needs}
 use Rattle.segment.proofs.next_field.Statement.{statement}
 use Rattle.segment.proofs.next_field.Tie as tie
 
-shared-slice-read-short-in : tie.Need-shared-slice-read-short-in
-shared-slice-read-short-in c = search needs
+shared-slice-read-wrapping-sub-u8 : tie.Need-shared-slice-read-wrapping-sub-u8
+shared-slice-read-wrapping-sub-u8 c = search needs
 
-short-in-requires : tie.Need-short-in-requires
-short-in-requires c κs = search needs
+wrapping-sub-u8-requires : tie.Need-wrapping-sub-u8-requires
+wrapping-sub-u8-requires c κs = search needs
 
-cast-x : tie.Need-cast-x
-cast-x c = search needs
+wide-requires : tie.Need-wide-requires
+wide-requires c κs = search needs
 
-sub-t13 : tie.Need-sub-t13
-sub-t13 c = step-fits (c .before .before .before .before .before .args .mode) (now (c .before .before .before .before .before .args .s)) (c .before .before .before .before .before .args .at) _ (c .before .before .before .if1 .taken) (c .before .short-in .ensures) (c .if2 .taken)
+value-of-requires : tie.Need-value-of-requires
+value-of-requires c κs = search needs
 
-add-t14 : tie.Need-add-t14
-add-t14 c = search needs
+add-t12 : tie.Need-add-t12
+add-t12 c = search needs
 
 returns : tie.Need-returns
-returns c = short-field (c .before .before .before .before .before .args .mode) _ (c .before .before .before .before .before .args .at) _ (c .before .before .before .if1 .taken) (c .before .short-in .ensures) (c .if2 .taken)
+returns c =
+    capital-field (c .before .before .before .before .before .before .before .args .mode) _ (c .before .before .before .before .before .before .before .args .at) _ (c .before .before .before .before .before .if1 .taken) (c .before .before .before .wrapping-sub-u8 .ensures) (c .before .before .if2 .taken) _
+    (c .value-of .ensures ∙ ap (λ (n : ℕ). valueOf (c .before .before .before .before .before .before .before .args .mode) n 0) (c .before .wide .ensures))
 
 next-value-requires : tie.Need-next-value-requires
 next-value-requires c κs = search needs
@@ -33,11 +38,11 @@ pub next-field-spec : {M : Type 1} → statement M
 next-field-spec =
     tie.close
     (tie.spec
-    shared-slice-read-short-in
-    short-in-requires
-    cast-x
-    sub-t13
-    add-t14
+    shared-slice-read-wrapping-sub-u8
+    wrapping-sub-u8-requires
+    wide-requires
+    value-of-requires
+    add-t12
     returns
     next-value-requires
     returns-2)

@@ -11,10 +11,10 @@ use Rattle.segment.proofs.parse_vlq_segment.Statement.{statement}
 use Rattle.segment.proofs.parse_vlq_segment.Tie as tie
 
 abbrev Inv-loop : tie.InvT-loop
-Inv-loop t u s mode at nums₀ starts₀ count₀ i₀ nums starts count i = Parsing mode s at nums starts count i
+Inv-loop s mode at nums₀ starts₀ count₀ i₀ nums starts count i = Parsing mode s at nums starts count i
 
 abbrev μ-loop : tie.MeasureT-loop
-μ-loop t u s mode at nums₀ starts₀ count₀ i₀ nums starts count i = length s - i
+μ-loop s mode at nums₀ starts₀ count₀ i₀ nums starts count i = length s - i
 
 loop-holds : tie.Need-loop-holds Inv-loop μ-loop
 loop-holds c = start _ _ _

@@ -4,10 +4,14 @@ use Rattle.short.proofs.most.Statement.{statement}
 use Rattle.short.proofs.most.Tie as tie
 
 returns : tie.Need-returns
-returns c = rw (eq-eqb (c .before .args .names) 0 (c .if1 .taken))
+returns c = rw (eq-eqb (c .before .args .k) 5 (c .if1 .taken))
 
 returns-2 : tie.Need-returns-2
-returns-2 c = rw (ne-eqb (c .before .args .names) 0 (c .if1 .left))
+returns-2 c = rw (ne-eqb (c .before .args .k) 5 (c .if1 .left))
 
 pub most-spec : {M : Type 1} → statement M
-most-spec = tie.close (tie.spec returns returns-2)
+most-spec =
+    tie.close
+    (tie.spec
+    returns
+    returns-2)

@@ -1,7 +1,6 @@
 -- `step::next_token` meets its contract. Assumes nothing.
 use borrow.Author.Needs.{needs}
 use mathlib.Core.Path.{refl}
-use native.Mathlib.Omega.{arith}
 use Rattle.step.proofs.Laws.{Coming, begins, ends, segment-at, crosses, less}
 use Prim.Native.Nat.{_-_}
 use lib.ListN.{length}
@@ -9,10 +8,10 @@ use Rattle.step.proofs.next_token.Statement.{statement}
 use Rattle.step.proofs.next_token.Tie as tie
 
 abbrev Inv-loop : tie.InvT-loop
-Inv-loop t u s mode sources names st₀ st = Coming mode sources names s st₀ st
+Inv-loop s mode sources names st₀ st = Coming mode sources names s st₀ st
 
 abbrev μ-loop : tie.MeasureT-loop
-μ-loop t u s mode sources names st₀ st = length s - st .at
+μ-loop s mode sources names st₀ st = length s - st .at
 
 loop-holds : tie.Need-loop-holds Inv-loop μ-loop
 loop-holds c = begins _ _ _ _ _
@@ -20,23 +19,23 @@ loop-holds c = begins _ _ _ _ _
 shared-slice-read-b : tie.Need-shared-slice-read-b Inv-loop μ-loop
 shared-slice-read-b c = search needs
 
-code-in-requires : tie.Need-code-in-requires Inv-loop μ-loop
-code-in-requires c κs = search needs
-
-segment-step-requires : tie.Need-segment-step-requires Inv-loop μ-loop
-segment-step-requires c κs = search needs
-
-returns : tie.Need-returns Inv-loop μ-loop
-returns c = segment-at _ _ _ _ _ _ (c .before .before .before .before .before .before .loop .inv) (c .before .before .before .before .if1 .taken) _ refl (omega (arith, c .before .before .before .shared-slice-known2 .given (c .before .before .before .before .before .before .loop .st .at))) _ (c .before .before .code-in .ensures) (c .before .if2 .taken) _ (c .segment-step .ensures)
+between-requires : tie.Need-between-requires Inv-loop μ-loop
+between-requires c κs = search needs
 
 crossed-requires : tie.Need-crossed-requires Inv-loop μ-loop
 crossed-requires c κs = search needs
 
 loop-less : tie.Need-loop-less Inv-loop μ-loop
-loop-less c = less _ _ _ _ _ _ (c .before .before .before .before .before .before .loop .inv) (c .before .before .before .before .if1 .taken) _ refl (omega (arith, c .before .before .before .shared-slice-known2 .given (c .before .before .before .before .before .before .loop .st .at))) _ (c .before .before .code-in .ensures) _ (c .crossed .ensures)
+loop-less c = less _ _ _ _ _ _ (c .before .before .before .before .before .before .loop .inv) (c .before .before .before .before .if1 .taken) _ refl _ (c .before .before .between .ensures) _ (c .crossed .ensures)
 
 loop-again : tie.Need-loop-again Inv-loop μ-loop
-loop-again c = crosses _ _ _ _ _ _ (c .before .before .before .before .before .before .loop .inv) (c .before .before .before .before .if1 .taken) _ refl (omega (arith, c .before .before .before .shared-slice-known2 .given (c .before .before .before .before .before .before .loop .st .at))) _ (c .before .before .code-in .ensures) (c .before .if2 .left) _ (c .crossed .ensures)
+loop-again c = crosses _ _ _ _ _ _ (c .before .before .before .before .before .before .loop .inv) (c .before .before .before .before .if1 .taken) _ refl _ (c .before .before .between .ensures) (c .before .if2 .taken) _ (c .crossed .ensures)
+
+segment-step-requires : tie.Need-segment-step-requires Inv-loop μ-loop
+segment-step-requires c κs = search needs
+
+returns : tie.Need-returns Inv-loop μ-loop
+returns c = segment-at _ _ _ _ _ _ (c .before .before .before .before .before .before .loop .inv) (c .before .before .before .before .if1 .taken) _ refl _ (c .before .before .between .ensures) (c .before .if2 .left) _ (c .segment-step .ensures)
 
 returns-2 : tie.Need-returns-2 Inv-loop μ-loop
 returns-2 c = ends _ _ _ _ _ _ (c .before .before .loop .inv) (c .if1 .left)
@@ -49,10 +48,10 @@ next-token-spec =
     μ-loop
     loop-holds
     shared-slice-read-b
-    code-in-requires
-    segment-step-requires
-    returns
+    between-requires
     crossed-requires
     loop-less
     loop-again
+    segment-step-requires
+    returns
     returns-2)

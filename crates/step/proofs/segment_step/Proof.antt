@@ -7,23 +7,26 @@ use borrow.Author.Needs.{needs}
 use Rattle.step.proofs.segment_step.Statement.{statement}
 use Rattle.step.proofs.segment_step.Tie as tie
 
-sub-if1 : tie.Need-sub-if1
-sub-if1 c = search needs
+add-if1 : tie.Need-add-if1
+add-if1 c = search needs
 
 try-fast-4-or-5-segment-requires : tie.Need-try-fast-4-or-5-segment-requires
-try-fast-4-or-5-segment-requires c κs = (c .before .before .pre .1 .0, (omega (arith, c .if1 .taken)))
+try-fast-4-or-5-segment-requires c κs = c .if1 .taken
 
 near-all-requires : tie.Need-near-all-requires
-near-all-requires c κs = (c .before .before .before .before .pre .1 .0, (omega (arith, c .before .before .if1 .taken)))
+near-all-requires c κs = c .before .try-fast-4-or-5-segment .ensures (c .if2 .taken) .1
 
 fits-requires : tie.Need-fits-requires
 fits-requires c κs = search needs
 
 short-step-requires : tie.Need-short-step-requires
-short-step-requires c κs = (c .before .fits2 .ensures (c .if3 .taken), omega (arith, shaped-few _ _ _ (c .before .before .before .before .try-fast-4-or-5-segment .ensures (c .before .before .before .if2 .taken)), c .before .before .before .before .before .if1 .taken, (c .before .before .before .before .before .before .before .good)))
+short-step-requires c κs = (c .before .fits2 .ensures (c .if3 .taken), omega (arith, shaped-few _ _ _ (c .before .before .before .before .try-fast-4-or-5-segment .ensures (c .before .before .before .if2 .taken) .0), c .before .before .before .before .before .if1 .taken, c .before .before .before .before .before .before .before .good))
 
 returns : tie.Need-returns
-returns c = c .short-step .ensures ∙ agrees (c .before .before .before .before .before .before .before .before .args .mode) (c .before .before .before .before .before .before .before .before .args .s .now) (c .before .before .before .before .before .before .before .before .args .sources) (c .before .before .before .before .before .before .before .before .args .names) (c .before .before .before .before .before .before .before .before .args .st) _ (omega (arith, c .before .before .before .before .before .before .if1 .taken)) (c .before .before .before .near-all .ensures) _ (c .before .before .before .before .before .try-fast-4-or-5-segment .ensures (c .before .before .before .before .if2 .taken)) (c .before .before .fits2 .ensures (c .before .if3 .taken)) (c .before .before .before .before .before .before .before .before .fits .sources .fits)
+returns c =
+    c .short-step .ensures
+    ∙ agrees (c .before .before .before .before .before .before .before .before .args .mode) (c .before .before .before .before .before .before .before .before .args .s .now) (c .before .before .before .before .before .before .before .before .args .sources) (c .before .before .before .before .before .before .before .before .args .names) (c .before .before .before .before .before .before .before .before .args .st) _ (c .before .before .before .before .before .before .if1 .taken) (c .before .before .before .near-all .ensures) _
+    (c .before .before .before .before .before .try-fast-4-or-5-segment .ensures (c .before .before .before .before .if2 .taken) .0) (c .before .before .fits2 .ensures (c .before .if3 .taken)) (c .before .before .before .before .before .before .before .before .fits .sources .fits)
 
 general-step-requires : tie.Need-general-step-requires
 general-step-requires c κs = search needs
@@ -35,7 +38,7 @@ pub segment-step-spec : {M : Type 1} → statement M
 segment-step-spec =
     tie.close
     (tie.spec
-    sub-if1
+    add-if1
     try-fast-4-or-5-segment-requires
     near-all-requires
     fits-requires

@@ -1,5 +1,5 @@
 -- Four bytes at once: what the tests of their bits say of each, and what is made of it. A fact of one byte is computed at all of
--- them. Assumes nothing.
+-- them. Assumes zeros.
 use mathlib.Core.Path.{_≡_, refl, sym, _∙_, ap, subst}
 use mathlib.Core.Bool.{Bool, true, false}
 use Prim.Native.Nat.{ℕ, _+_, _-_, _*_, _/_, _%_, _^_, _<_, _≤_}
@@ -12,18 +12,11 @@ use Rattle.list.proofs.Table.{both}
 use Rattle.digits.specs.Digits.{digitOf, isDelim}
 use Rattle.digits.specs.Tables.{shortOf, stepOf, word}
 use Rattle.digits.proofs.Below as below
-use Rattle.digits.proofs.Words.{and-lanes}
+use Rattle.digits.proofs.Below.{both-left, both-right}
+use Rattle.digits.proofs.Words.{and-lanes, add-word, sub-word, mul-word, zeros, none-high}
 use Rattle.digits.proofs.Words as words
 use Rattle.digits.proofs.Shorts as short
 use Rattle.short.specs.Short.{Bytes, Ones, Read, Stepping}
-
-both-left : (a b : Bool) → T (both a b) → T a
-both-left true b t = tt
-both-left false b t = t
-
-both-right : (a b : Bool) → T (both a b) → T b
-both-right true b t = t
-both-right false b t = absurd t
 
 -- where the condition holds
 given : (c t : Bool) → c ≡ true → T (pick c t true) → T t
@@ -31,13 +24,6 @@ given true t e h = h
 given false t e h = absurd (subst T (sym e) tt)
 
 -- ---- one byte
-
-low-test : ℕ → Bool
-low-test x = pick (eqb (bitAnd x 128) 0) (ltb x 128) true
-
-low : (x : ℕ) → x < 256 → bitAnd x 128 ≡ 0 → x < 128
-unfolding low-test
-low x h e = ltb→lt x 128 (given (eqb (bitAnd x 128) 0) (ltb x 128) (eq-eqb (bitAnd x 128) 0 e) (below.at low-test 256 tt x h))
 
 abbrev twelve : ℕ → ℕ
 twelve x = bitAnd x 32 / 8 * 3
@@ -79,20 +65,11 @@ one x h e =
 
 -- ---- four bytes
 
-nothing : (p q r s : ℕ) → word p q r s ≡ 0 → (p ≡ 0) × ((q ≡ 0) × ((r ≡ 0) × (s ≡ 0)))
-nothing p q r s e = (omega arith, (omega arith, (omega arith, omega arith)))
-
 eighths : (p q r s : ℕ) → word (8 * p) (8 * q) (8 * r) (8 * s) / 8 * 3 ≡ word (p * 3) (q * 3) (r * 3) (s * 3)
 eighths p q r s = omega arith
 
 halves : (p q r s : ℕ) → word (2 * p) (2 * q) (2 * r) (2 * s) / 2 ≡ word p q r s
 halves p q r s = omega arith
-
-taken : (a b c d p q r s : ℕ) → p ≤ a → q ≤ b → r ≤ c → s ≤ d → word a b c d - word p q r s ≡ word (a - p) (b - q) (c - r) (d - s)
-taken a b c d p q r s x y z w = omega arith
-
-put : (a b c d p q r s : ℕ) → word a b c d + word p q r s ≡ word (a + p) (b + q) (c + r) (d + s)
-put a b c d p q r s = omega arith
 
 -- the bytes of a number below 2^32
 pub bytes : (w : ℕ) → w < 2 ^ 32 → Bytes 256 w
@@ -112,8 +89,8 @@ bytes w h =
 -- no byte has its highest bit
 narrowed : (a b c d : ℕ) → a < 256 → b < 256 → c < 256 → d < 256 → bitAnd (word a b c d) 2155905152 ≡ 0 → (a < 128) × ((b < 128) × ((c < 128) × (d < 128)))
 narrowed a b c d la lb lc ld e =
-    let z = nothing (bitAnd a 128) (bitAnd b 128) (bitAnd c 128) (bitAnd d 128) (sym (and-lanes a b c d 128 128 128 128 la lb lc (omega arith) (omega arith) (omega arith)) ∙ e) in
-    (low a la (z .0), (low b lb (z .1 .0), (low c lc (z .1 .1 .0), low d ld (z .1 .1 .1))))
+    let z = zeros (bitAnd a 128) (bitAnd b 128) (bitAnd c 128) (bitAnd d 128) (sym (and-lanes a b c d 128 128 128 128 la lb lc (omega arith) (omega arith) (omega arith)) ∙ e) in
+    (none-high a la (z .0), (none-high b lb (z .1 .0), (none-high c lc (z .1 .1 .0), none-high d ld (z .1 .1 .1))))
 
 pub narrow : (w : ℕ) → w < 2 ^ 32 → bitAnd w 2155905152 ≡ 0 → Bytes 128 w
 narrow w h e =
@@ -156,13 +133,13 @@ module _ (t : ℕ) (x : Bytes 128 t) where
     k-is = ek ∙ twelves-are
 
     left-is : t - k ≡ word (x .a - twelve (x .a)) (x .b - twelve (x .b)) (x .c - twelve (x .c)) (x .d - twelve (x .d))
-    left-is = rw (x .is, k-is) (taken (x .a) (x .b) (x .c) (x .d) _ _ _ _ (A .less) (B .less) (C .less) (D .less))
+    left-is = rw (x .is, k-is) (sub-word (x .a) (x .b) (x .c) (x .d) _ _ _ _ (A .less) (B .less) (C .less) (D .less))
 
     digits-are : t - k + k / 2 ≡ word (x .a - twelve (x .a) + twelve (x .a) / 2) (x .b - twelve (x .b) + twelve (x .b) / 2)
         (x .c - twelve (x .c) + twelve (x .c) / 2) (x .d - twelve (x .d) + twelve (x .d) / 2)
     digits-are =
         rw (left-is, half-is)
-        (put (x .a - twelve (x .a)) (x .b - twelve (x .b)) (x .c - twelve (x .c)) (x .d - twelve (x .d)) (twelve (x .a) / 2) (twelve (x .b) / 2) (twelve (x .c) / 2) (twelve (x .d) / 2))
+        (add-word (x .a - twelve (x .a)) (x .b - twelve (x .b)) (x .c - twelve (x .c)) (x .d - twelve (x .d)) (twelve (x .a) / 2) (twelve (x .b) / 2) (twelve (x .c) / 2) (twelve (x .d) / 2))
       where
         by : (p q r s p′ q′ r′ s′ : ℕ) → p ≡ 2 * p′ → q ≡ 2 * q′ → r ≡ 2 * r′ → s ≡ 2 * s′ → word p q r s / 2 ≡ word p′ q′ r′ s′
         by p q r s p′ q′ r′ s′ e f g h = rw (e, f, g, h) (halves p′ q′ r′ s′)
@@ -174,12 +151,12 @@ module _ (t : ℕ) (x : Bytes 128 t) where
         ≡ word (bitAnd (x .a - twelve (x .a) + 102) 128) (bitAnd (x .b - twelve (x .b) + 102) 128) (bitAnd (x .c - twelve (x .c) + 102) 128) (bitAnd (x .d - twelve (x .d) + 102) 128)
     over-is =
         ap (λ (n : ℕ). bitAnd (n + 1717986918) 2155905152) left-is
-        ∙ ap (λ (n : ℕ). bitAnd n 2155905152) (put (x .a - twelve (x .a)) (x .b - twelve (x .b)) (x .c - twelve (x .c)) (x .d - twelve (x .d)) 102 102 102 102)
+        ∙ ap (λ (n : ℕ). bitAnd n 2155905152) (add-word (x .a - twelve (x .a)) (x .b - twelve (x .b)) (x .c - twelve (x .c)) (x .d - twelve (x .d)) 102 102 102 102)
         ∙ and-lanes (x .a - twelve (x .a) + 102) (x .b - twelve (x .b) + 102) (x .c - twelve (x .c) + 102) (x .d - twelve (x .d) + 102) 128 128 128 128 (omega (arith, x .la)) (omega (arith, x .lb)) (omega (arith, x .lc)) (omega arith) (omega arith) (omega arith)
 
     pub ones : bitAnd (t - k + 1717986918) 2155905152 ≡ 0 → Ones t (t - k + k / 2)
     ones e =
-        let z = nothing _ _ _ _ (sym over-is ∙ e) in
+        let z = zeros _ _ _ _ (sym over-is ∙ e) in
         let a = one (x .a) (x .la) (z .0) in
         let b = one (x .b) (x .lb) (z .1 .0) in
         let c = one (x .c) (x .lc) (z .1 .1 .0) in
@@ -235,9 +212,6 @@ digit d h =
       step = eqb→eq _ _ (both-right (leb (bitAnd (halfly d) (oddly d * 15)) (halfly d)) _ p₅);
     }
 
-fifteen : (p q r s : ℕ) → word p q r s * 15 ≡ word (p * 15) (q * 15) (r * 15) (s * 15)
-fifteen p q r s = omega arith
-
 twice : (p q r s : ℕ) → 2 * word p q r s ≡ word (2 * p) (2 * q) (2 * r) (2 * s)
 twice p q r s = omega arith
 
@@ -263,7 +237,7 @@ module _ (w : ℕ) (x : Bytes 32 w) where
   half-is =
       ap (λ (n : ℕ). (n - bitAnd w 16843009) / 2) (x .is)
       ∙ ap (λ (n : ℕ). (word (x .a) (x .b) (x .c) (x .d) - n) / 2) odd-is
-      ∙ ap (λ (n : ℕ). n / 2) (taken (x .a) (x .b) (x .c) (x .d) (oddly (x .a)) (oddly (x .b)) (oddly (x .c)) (oddly (x .d)) (a .odd-less) (b .odd-less) (c .odd-less) (d .odd-less))
+      ∙ ap (λ (n : ℕ). n / 2) (sub-word (x .a) (x .b) (x .c) (x .d) (oddly (x .a)) (oddly (x .b)) (oddly (x .c)) (oddly (x .d)) (a .odd-less) (b .odd-less) (c .odd-less) (d .odd-less))
       ∙ by _ _ _ _ _ _ _ _ (a .even) (b .even) (c .even) (d .even)
     where
       by : (p q r s p′ q′ r′ s′ : ℕ) → p ≡ 2 * p′ → q ≡ 2 * q′ → r ≡ 2 * r′ → s ≡ 2 * s′ → word p q r s / 2 ≡ word p′ q′ r′ s′
@@ -274,10 +248,10 @@ module _ (w : ℕ) (x : Bytes 32 w) where
   both-is =
       ap (λ (n : ℕ). bitAnd n (bitAnd w 16843009 * 15)) half-is
       ∙ ap (λ (n : ℕ). bitAnd (word (halfly (x .a)) (halfly (x .b)) (halfly (x .c)) (halfly (x .d))) n)
-          (ap (λ (n : ℕ). n * 15) odd-is ∙ fifteen (oddly (x .a)) (oddly (x .b)) (oddly (x .c)) (oddly (x .d)))
+      (ap (λ (n : ℕ). n * 15) odd-is ∙ mul-word (oddly (x .a)) (oddly (x .b)) (oddly (x .c)) (oddly (x .d)) 15)
       ∙ and-lanes (halfly (x .a)) (halfly (x .b)) (halfly (x .c)) (halfly (x .d)) (oddly (x .a) * 15) (oddly (x .b) * 15) (oddly (x .c) * 15) (oddly (x .d) * 15)
-          (omega (arith, a .half-small)) (omega (arith, b .half-small)) (omega (arith, c .half-small))
-          (omega (arith, a .odd-small)) (omega (arith, b .odd-small)) (omega (arith, c .odd-small))
+      (omega (arith, a .half-small)) (omega (arith, b .half-small)) (omega (arith, c .half-small))
+      (omega (arith, a .odd-small)) (omega (arith, b .odd-small)) (omega (arith, c .odd-small))
 
   -- for the code's own needs
   pub odd-fits : bitAnd w 16843009 ≤ 16843009
@@ -295,11 +269,15 @@ module _ (w : ℕ) (x : Bytes 32 w) where
   pub steps-are : (w - bitAnd w 16843009) / 2 + 269488144 - 2 * bitAnd ((w - bitAnd w 16843009) / 2) (bitAnd w 16843009 * 15)
       ≡ word (stepOf (x .a)) (stepOf (x .b)) (stepOf (x .c)) (stepOf (x .d))
   steps-are =
-      rw (both-is, half-is, twice (bitAnd (halfly (x .a)) (oddly (x .a) * 15)) (bitAnd (halfly (x .b)) (oddly (x .b) * 15)) (bitAnd (halfly (x .c)) (oddly (x .c) * 15)) (bitAnd (halfly (x .d)) (oddly (x .d) * 15)),
-        put (halfly (x .a)) (halfly (x .b)) (halfly (x .c)) (halfly (x .d)) 16 16 16 16)
-      (taken (halfly (x .a) + 16) (halfly (x .b) + 16) (halfly (x .c) + 16) (halfly (x .d) + 16)
-        (2 * bitAnd (halfly (x .a)) (oddly (x .a) * 15)) (2 * bitAnd (halfly (x .b)) (oddly (x .b) * 15)) (2 * bitAnd (halfly (x .c)) (oddly (x .c) * 15)) (2 * bitAnd (halfly (x .d)) (oddly (x .d) * 15))
-        (omega (arith, a .both-less, a .half-small)) (omega (arith, b .both-less, b .half-small)) (omega (arith, c .both-less, c .half-small)) (omega (arith, d .both-less, d .half-small))
+      rw (
+        both-is,
+        half-is,
+        twice (bitAnd (halfly (x .a)) (oddly (x .a) * 15)) (bitAnd (halfly (x .b)) (oddly (x .b) * 15)) (bitAnd (halfly (x .c)) (oddly (x .c) * 15)) (bitAnd (halfly (x .d)) (oddly (x .d) * 15)),
+        add-word (halfly (x .a)) (halfly (x .b)) (halfly (x .c)) (halfly (x .d)) 16 16 16 16,
+      )
+      (sub-word (halfly (x .a) + 16) (halfly (x .b) + 16) (halfly (x .c) + 16) (halfly (x .d) + 16)
+      (2 * bitAnd (halfly (x .a)) (oddly (x .a) * 15)) (2 * bitAnd (halfly (x .b)) (oddly (x .b) * 15)) (2 * bitAnd (halfly (x .c)) (oddly (x .c) * 15)) (2 * bitAnd (halfly (x .d)) (oddly (x .d) * 15))
+      (omega (arith, a .both-less, a .half-small)) (omega (arith, b .both-less, b .half-small)) (omega (arith, c .both-less, c .half-small)) (omega (arith, d .both-less, d .half-small))
       ∙ rw (a .step, b .step, c .step, d .step))
 
 -- ---- both
@@ -364,6 +342,6 @@ module _ (w t d r : ℕ) (x : Bytes 256 w) (et : (t + 1094795585) % 2 ^ 32 ≡ w
         one-c = o .one-c;
         one-d = o .one-d;
         is =
-          s (small-digits t d o)
-          ∙ rw (step-is (y .a + 65) (o .one-a), step-is (y .b + 65) (o .one-b), step-is (y .c + 65) (o .one-c), step-is (y .d + 65) (o .one-d));
+            s (small-digits t d o)
+            ∙ rw (step-is (y .a + 65) (o .one-a), step-is (y .b + 65) (o .one-b), step-is (y .c + 65) (o .one-c), step-is (y .d + 65) (o .one-d));
       })

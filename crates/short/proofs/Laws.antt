@@ -83,27 +83,29 @@ module _ (s : List ℕ) (at : ℕ) (small : (i : ℕ) → getD s i 0 < 256) (b :
           first = ap (λ (n : ℕ). n % 256) (r .is) ∙ words.first (shortOf (getD s at 0)) (shortOf f) _ _ (omega (arith, r .one-a)) ∙ omega (arith, r .one-a);
           second = omega (arith, capital-a, ap shortOf second);
           third =
-            ap (λ (n : ℕ). n / 65536 % 256) (r .is)
-            ∙ words.third (shortOf (getD s at 0)) (shortOf f) (shortOf (getD s (at + 2) 0)) _ (omega (arith, r .one-a)) (omega (arith, r .one-b)) (omega (arith, r .one-c))
-            ∙ omega (arith, r .one-c);
+              ap (λ (n : ℕ). n / 65536 % 256) (r .is)
+              ∙ words.third (shortOf (getD s at 0)) (shortOf f) (shortOf (getD s (at + 2) 0)) _ (omega (arith, r .one-a)) (omega (arith, r .one-b)) (omega (arith, r .one-c))
+              ∙ omega (arith, r .one-c);
           fourth =
-            ap (λ (n : ℕ). n / 16777216) (r .is)
-            ∙ words.fourth (shortOf (getD s at 0)) (shortOf f) (shortOf (getD s (at + 2) 0)) (shortOf (getD s (at + 3) 0)) (omega (arith, r .one-a)) (omega (arith, r .one-b)) (omega (arith, r .one-c))
-            ∙ omega (arith, r .one-d);
+              ap (λ (n : ℕ). n / 16777216) (r .is)
+              ∙ words.fourth (shortOf (getD s at 0)) (shortOf f) (shortOf (getD s (at + 2) 0)) (shortOf (getD s (at + 3) 0)) (omega (arith, r .one-a)) (omega (arith, r .one-b)) (omega (arith, r .one-c))
+              ∙ omega (arith, r .one-d);
           fifth =
-            ap (λ (n : ℕ). n / 256 % 256) (r .is)
-            ∙ words.second (shortOf (getD s at 0)) (shortOf f) (shortOf (getD s (at + 2) 0)) _ (omega (arith, r .one-a)) (omega (arith, r .one-b)) ∙ e;
+              ap (λ (n : ℕ). n / 256 % 256) (r .is)
+              ∙ words.second (shortOf (getD s at 0)) (shortOf f) (shortOf (getD s (at + 2) 0)) _ (omega (arith, r .one-a)) (omega (arith, r .one-b)) ∙ e;
         }
 
     shaped-by : (t : Bool) (k : ℕ) → k ≡ pick t 4 5 → f ≡ pick t 65 b → isDelim (getD s (at + k) 0) ≡ true → Shaped s at k × Steps s at steps
     shaped-by true k ek e d =
-        let q : shortOf (getD s (at + 4) 0) ≡ 80 = delimiter (getD s (at + 4) 0) (ap (λ (n : ℕ). isDelim (getD s (at + n) 0)) (sym ek) ∙ d) in
-        (record { few = inl ek; digit = digit k (λ h. absurd (omega arith)) (omega arith); delim = delimiter (getD s (at + k) 0) d },
-        steps-by (ap shortOf e ∙ omega (arith, capital-a, q)))
+        let q : shortOf (getD s (at + 4) 0) ≡ 80 = delimiter (getD s (at + 4) 0) (ap (λ (n : ℕ). isDelim (getD s (at + n) 0)) (sym ek) ∙ d) in (
+          record { few = inl ek; digit = digit k (λ h. absurd (omega arith)) (omega arith); delim = delimiter (getD s (at + k) 0) d },
+          steps-by (ap shortOf e ∙ omega (arith, capital-a, q)),
+        )
     shaped-by false k ek e d =
-        let q : shortOf f ≡ shortOf (getD s (at + 4) 0) = ap shortOf (e ∙ eb) in
-        (record { few = inr ek; digit = digit k (λ h. omega (arith, q, r .one-b)) (omega arith); delim = delimiter (getD s (at + k) 0) d },
-        steps-by (q ∙ omega (arith, q, r .one-b)))
+        let q : shortOf f ≡ shortOf (getD s (at + 4) 0) = ap shortOf (e ∙ eb) in (
+          record { few = inr ek; digit = digit k (λ h. omega (arith, q, r .one-b)) (omega arith); delim = delimiter (getD s (at + k) 0) d },
+          steps-by (q ∙ omega (arith, q, r .one-b)),
+        )
 
     pub shaped : (k : ℕ) → k ≡ pick (ltb b 60) 4 5 → isDelim (getD s (at + k) 0) ≡ true → 0 < k → Shaped s at k × Steps s at steps
     shaped k ek d p = shaped-by (ltb b 60) k ek ef d

@@ -146,12 +146,12 @@ fn most(k: usize, names: u32) -> u64
 pub fn fits(n: Near, k: usize, sources: u32, names: u32) -> bool
     ensures { λ r. ⌜ (r ≡ true → Fit n k sources names) ⌝ }
 {
+    if most(k, names) <= n.name_id {
+        return false;
+    }
     let all = n.dst_col | n.src_line | n.src_col;
     if 4294967296 <= all {
         return false;
     }
-    if sources as u64 <= n.source_id {
-        return false;
-    }
-    n.name_id < most(k, names)
+    n.source_id < sources as u64
 }

@@ -42,13 +42,7 @@ fn step_of(begin: usize, starts: [usize; 5], a: Applied) -> Step
 }
 
 // A segment in general.
-fn general_step(
-    s: &[u8],
-    mode: Mode,
-    sources: u32,
-    names: u32,
-    st: State,
-) -> Step
+fn general_step(s: &[u8], mode: Mode, sources: u32, names: u32, st: State) -> Step
     ensures { λ r. ⌜ r ≡ segmentedAt mode sources names (now (s .entry)) st ⌝ }
 {
     let g = segment::parse_vlq_segment(s, mode, st.at);
@@ -106,13 +100,7 @@ fn short_step(st: State, n: Near, k: usize, sources: u32, names: u32) -> Step
 }
 
 // One segment: by the short way where its tests hold, else, and for every refusal, in general.
-fn segment_step(
-    s: &[u8],
-    mode: Mode,
-    sources: u32,
-    names: u32,
-    st: State,
-) -> Step
+fn segment_step(s: &[u8], mode: Mode, sources: u32, names: u32, st: State) -> Step
     requires { ⌜ st .at < length (now s) ⌝ }
     ensures { λ r. ⌜ r ≡ segmentedAt mode sources names (now (s .entry)) st ⌝ }
 {
@@ -155,13 +143,7 @@ fn crossed(st: State, b: u8) -> State
 }
 
 // The next token from the state's place on.
-pub fn next_token(
-    s: &[u8],
-    mode: Mode,
-    sources: u32,
-    names: u32,
-    from: State,
-) -> Step
+pub fn next_token(s: &[u8], mode: Mode, sources: u32, names: u32, from: State) -> Step
     ensures { λ r. ⌜ r ≡ stepAt mode sources names (now (s .entry)) from ⌝ }
 {
     let mut st = from;

@@ -1,4 +1,5 @@
 pub mod Places
 pub mod Steps
+pub mod Lanes
 pub mod Values
 pub mod Several

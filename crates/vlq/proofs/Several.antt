@@ -1,98 +1,238 @@
--- A number of two, three or four digits, as the code makes it of four bytes. Assumes nothing.
+-- A number that ends within four bytes, as the code makes it of them. Assumes nothing.
 use mathlib.Core.Path.{_≡_, refl, sym, _∙_, ap}
 use mathlib.Core.Bool.{Bool, true, false}
 use mathlib.Core.List.{List}
 use mathlib.Core.Logic.{_⊎_, inl, inr}
-use Prim.Native.Nat.{ℕ, _+_, _*_, _/_, _%_, _^_, _<_, _≤_}
+use Prim.Native.Nat.{ℕ, _+_, _-_, _*_, _/_, _%_, _^_, _<_, _≤_}
 use native.Mathlib.Omega.{arith}
-use lib.Dec.{ltb, eqb}
+use lib.Bits.{bitAnd, bitXor, and-mask, xor-block, xor-self}
+use lib.Dec.{T, ltb, eqb, eqb→eq}
 use lib.ListN.{length, getD}
-use borrow.Author.Tests.{ltb-true, ltb-false}
+use borrow.Author.Tests.{ltb-true, ltb-false, eqb-true, eq-eqb}
 use Rattle.list.specs.Pick.{pick}
-use Rattle.digits.specs.Digits.{classOf, digitOf, isDelim}
-use Rattle.digits.proofs.Tables.{Delim, Digit, code-cases, is-digit}
+use Rattle.digits.specs.Digits.{digitOf, isDelim}
+use Rattle.digits.specs.Tables.{word}
+use Rattle.digits.proofs.Below as below
+use Rattle.digits.proofs.Tables.{agree, agree-eq}
+use Rattle.digits.proofs.Words.{first, second, third, fourth, zeros}
 use Rattle.vlq.specs.Vlq.{vlqAt}
-use Rattle.vlq.specs.declared.Vlq.{Vlq}
+use Rattle.vlq.specs.Several.{each, endOf, highOf, lowOf, badOf, fiveOf, bitsOf, countOf, FewIn}
 use Rattle.vlq.specs.declared.Vlq.the-variants.{Value}
 use Rattle.vlq.proofs.Places.{put-exact}
 use Rattle.vlq.proofs.Steps.{Reading, start, gives, turns}
+use Rattle.vlq.proofs.Lanes.{Under, under, Lanes}
 
--- d is what the table gives for the byte at i, and no delimiter
-module _ (s : List ℕ) (at cur k i d : ℕ) (r : Reading s at cur k i) (h : i < length s) (small : getD s i 0 < 256) (ed : d ≡ classOf (getD s i 0)) (n : d < 64) (few : k < 12) where
-  digit : Digit (getD s i 0)
-  digit = is-digit (getD s i 0) d small ed (λ q. omega arith)
+-- ---- one digit after another
 
-  same : d ≡ digitOf (getD s i 0)
-  same = ed ∙ digit .is
+-- five is the low five bits of the digit b
+record Digit (b five : ℕ) : Type 0 where
+  pub delim : isDelim b ≡ false
+  pub is : five ≡ digitOf b % 32
 
-  whole : cur + d % 32 * 2 ^ (5 * k) ≡ (cur + digitOf (getD s i 0) % 32 * 2 ^ (5 * k)) % 2 ^ 64
+module _ (s : List ℕ) (at cur k i five : ℕ) (r : Reading s at cur k i) (h : i < length s) (g : Digit (getD s i 0) five) (few : k < 12) where
+  whole : cur + five * 2 ^ (5 * k) ≡ (cur + digitOf (getD s i 0) % 32 * 2 ^ (5 * k)) % 2 ^ 64
   whole =
-      ap (λ (x : ℕ). cur + x % 32 * 2 ^ (5 * k)) same
+      ap (λ (x : ℕ). cur + x * 2 ^ (5 * k)) (g .is)
       ∙ sym (put-exact cur k (digitOf (getD s i 0) % 32) few (r .low (omega arith)) (omega arith))
 
-  goes-on : 32 ≤ d → (next j : ℕ) → next ≡ cur + d % 32 * 2 ^ (5 * k) → j ≡ i + 1 → Reading s at next (k + 1) j
-  goes-on q next j e p =
-      rw (e, p, whole) (turns s at cur k i r h (digit .delim) (omega arith) (omega (arith, same)))
+  goes-on : 32 ≤ digitOf (getD s i 0) → (next j : ℕ) → next ≡ cur + five * 2 ^ (5 * k) → j ≡ i + 1 → Reading s at next (k + 1) j
+  goes-on q next j e p = rw (e, p, whole) (turns s at cur k i r h (g .delim) (omega arith) q)
 
-  ends-here : d < 32 → (next j : ℕ) → next ≡ cur + d % 32 * 2 ^ (5 * k) → j ≡ i + 1 → 0 ≡ pick (eqb k 12) (digitOf (getD s i 0) % 32 / 16) 0 → vlqAt s at ≡ Value next 0 j
+  ends-here : digitOf (getD s i 0) < 32 → (next j : ℕ) → next ≡ cur + five * 2 ^ (5 * k) → j ≡ i + 1 → 0 ≡ pick (eqb k 12) (digitOf (getD s i 0) % 32 / 16) 0 → vlqAt s at ≡ Value next 0 j
   ends-here q next j e p z =
-      gives s at cur k i r h (digit .delim) (omega arith) (omega (arith, same)) next 0 (e ∙ whole) z ∙ ap (λ (m : ℕ). Value next 0 m) (sym p)
+      gives s at cur k i r h (g .delim) (omega arith) q next 0 (e ∙ whole) z ∙ ap (λ (m : ℕ). Value next 0 m) (sym p)
 
--- the four bytes' codes are a, b, c₁ and d₁; c and d are 0 where the digit before was the last
-module _ (s : List ℕ) (at : ℕ) (h : at + 4 ≤ length s) (small : (i : ℕ) → getD s i 0 < 256) (e : isDelim (getD s at 0) ≡ false)
-    (a b c₁ d₁ c d : ℕ) (ea : a ≡ classOf (getD s at 0)) (eb : b ≡ classOf (getD s (at + 1) 0))
-    (ec₁ : c₁ ≡ classOf (getD s (at + 2) 0)) (ed₁ : d₁ ≡ classOf (getD s (at + 3) 0))
-    (ec : c ≡ pick (ltb b 32) 0 c₁) (ed : d ≡ pick (ltb c 32) 0 d₁)
-    (ha : 32 ≤ a) (hb : b < 64) (hc : c < 64) (hd : d < 32) where
-  a-small : a < 64
-  a-small = by-case (code-cases (getD s at 0) (small at))
+module _ (s : List ℕ) (at x y z t : ℕ) (h : at + 4 ≤ length s) (ga : Digit (getD s at 0) x) where
+  one : digitOf (getD s at 0) < 32 → vlqAt s at ≡ Value x 0 (at + 1)
+  one q = ends-here s at 0 0 at x (start s at (omega arith) (ga .delim)) (omega arith) ga (omega arith) q x (at + 1) (omega arith) refl refl
+
+  module _ (qa : 32 ≤ digitOf (getD s at 0)) (gb : Digit (getD s (at + 1) 0) y) where
+    after-one : Reading s at x 1 (at + 1)
+    after-one = goes-on s at 0 0 at x (start s at (omega arith) (ga .delim)) (omega arith) ga (omega arith) qa x (at + 1) (omega arith) refl
+
+    two : digitOf (getD s (at + 1) 0) < 32 → vlqAt s at ≡ Value (x + y * 32) 0 (at + 2)
+    two q = ends-here s at x 1 (at + 1) y after-one (omega arith) gb (omega arith) q (x + y * 32) (at + 2) (omega arith) (omega arith) refl
+
+    module _ (qb : 32 ≤ digitOf (getD s (at + 1) 0)) (gc : Digit (getD s (at + 2) 0) z) where
+      after-two : Reading s at (x + y * 32) 2 (at + 2)
+      after-two = goes-on s at x 1 (at + 1) y after-one (omega arith) gb (omega arith) qb (x + y * 32) (at + 2) (omega arith) (omega arith)
+
+      three : digitOf (getD s (at + 2) 0) < 32 → vlqAt s at ≡ Value (x + y * 32 + z * 1024) 0 (at + 3)
+      three q = ends-here s at (x + y * 32) 2 (at + 2) z after-two (omega arith) gc (omega arith) q (x + y * 32 + z * 1024) (at + 3) (omega arith) (omega arith) refl
+
+      module _ (qc : 32 ≤ digitOf (getD s (at + 2) 0)) (gd : Digit (getD s (at + 3) 0) t) where
+        after-three : Reading s at (x + y * 32 + z * 1024) 3 (at + 3)
+        after-three = goes-on s at (x + y * 32) 2 (at + 2) z after-two (omega arith) gc (omega arith) qc (x + y * 32 + z * 1024) (at + 3) (omega arith) (omega arith)
+
+        four : digitOf (getD s (at + 3) 0) < 32 → vlqAt s at ≡ Value (x + y * 32 + z * 1024 + t * 32768) 0 (at + 4)
+        four q = ends-here s at (x + y * 32 + z * 1024) 3 (at + 3) t after-three (omega arith) gd (omega arith) q (x + y * 32 + z * 1024 + t * 32768) (at + 4) (omega arith) (omega arith) refl
+
+-- ---- one byte below 128, by tests that antt computes
+abbrev yields : Bool → Bool → Bool
+yields true u = u
+yields false u = true
+
+yields-of : (t u : Bool) → T (yields t u) → t ≡ true → T u
+yields-of true u h e = h
+yields-of false u h e = let z : _≡_ {A = ℕ} 0 1 = ap (λ (v : Bool). pick v 1 0) e in absurd (omega arith)
+
+-- a test that each byte passes that is not bad
+where-good : (f : ℕ → Bool) → T (below.below (λ n. yields (eqb (badOf n) 0) (f n)) 128) → (n : ℕ) → n < 128 → badOf n ≡ 0 → T (f n)
+where-good f t n p z =
+    yields-of (eqb (badOf n) 0) (f n) (below.at (λ n. yields (eqb (badOf n) 0) (f n)) 128 t n p) (eq-eqb (badOf n) 0 z)
+
+five-lt : Under fiveOf
+unfolding fiveOf highOf lowOf
+five-lt = under fiveOf tt
+
+bad-lt : Under badOf
+unfolding badOf highOf lowOf
+bad-lt = under badOf tt
+
+module _ (n : ℕ) (p : n < 128) where
+  end-cases : (endOf n ≡ 0) ⊎ (endOf n ≡ 128)
+  unfolding endOf
+  end-cases = by (eqb (endOf n) 0) refl (below.at (λ n. pick (eqb (endOf n) 0) true (eqb (endOf n) 128)) 128 tt n p)
     where
-      by-case : Delim (getD s at 0) ⊎ Digit (getD s at 0) → a < 64
-      by-case (inl l) = let z : _≡_ {A = ℕ} 0 1 = ap (λ (t : Bool). pick t 0 1) (sym (l .delim) ∙ e) in absurd (omega arith)
-      by-case (inr g) = omega (arith, ea, g .small)
+      by : (t : Bool) → eqb (endOf n) 0 ≡ t → T (pick t true (eqb (endOf n) 128)) → (endOf n ≡ 0) ⊎ (endOf n ≡ 128)
+      by true e h = inl (eqb-true (endOf n) 0 e)
+      by false e h = inr (eqb→eq (endOf n) 128 h)
 
-  first : Reading s at (a % 32) 1 (at + 1)
-  first =
-      goes-on s at 0 0 at a (start s at (omega arith) e) (omega arith) (small at) ea a-small (omega arith) ha (a % 32) (at + 1) (omega arith) refl
+  -- a byte that is not bad is a digit
+  module _ (z : badOf n ≡ 0) (b : ℕ) (e : b ≡ n) where
+    good : Digit b (fiveOf n)
+    unfolding badOf fiveOf highOf lowOf isDelim digitOf
+    good =
+        record {
+          delim = ap isDelim e ∙ agree-eq (isDelim n) false (where-good (λ n. agree (isDelim n) false) tt n p z);
+          is =
+              eqb→eq (fiveOf n) (digitOf n % 32) (where-good (λ n. eqb (fiveOf n) (digitOf n % 32)) tt n p z)
+              ∙ ap (λ (x : ℕ). digitOf x % 32) (sym e);
+        }
 
-  second : 32 ≤ b → Reading s at (a % 32 + b % 32 * 32) 2 (at + 2)
-  second q =
-      goes-on s at (a % 32) 1 (at + 1) b first (omega arith) (small (at + 1)) eb hb (omega arith) q (a % 32 + b % 32 * 32) (at + 2) (omega arith) (omega arith)
+    end-is : endOf n ≡ pick (ltb (digitOf n) 32) 128 0
+    unfolding badOf endOf highOf lowOf digitOf
+    end-is =
+        eqb→eq (endOf n) (pick (ltb (digitOf n) 32) 128 0)
+        (where-good (λ n. eqb (endOf n) (pick (ltb (digitOf n) 32) 128 0)) tt n p z)
 
-  module _ (bits : ℕ) (is : bits ≡ a % 32 + b % 32 * 32 + c % 32 * 1024 + d * 32768) where
-    two : ltb b 32 ≡ true → vlqAt s at ≡ Value bits 0 (at + 2)
-    two q =
-        let zc : c ≡ 0 = rw q at ec in
-        let zd : d ≡ 0 = rw zc at ed in
-        ends-here s at (a % 32) 1 (at + 1) b first (omega arith) (small (at + 1)) eb hb (omega arith) (ltb-true b 32 q) bits (at + 2) (omega arith) (omega arith) refl
+    last : endOf n ≡ 128 → digitOf b < 32
+    last q = rw e (by (ltb (digitOf n) 32) refl end-is)
+      where
+        by : (t : Bool) → ltb (digitOf n) 32 ≡ t → endOf n ≡ pick t 128 0 → digitOf n < 32
+        by true u v = ltb-true (digitOf n) 32 u
+        by false u v = absurd (omega arith)
 
-    module _ (q : ltb b 32 ≡ false) where
-      long : 32 ≤ b
-      long = ltb-false b 32 q
+    not-last : endOf n ≡ 0 → 32 ≤ digitOf b
+    not-last q = rw e (by (ltb (digitOf n) 32) refl end-is)
+      where
+        by : (t : Bool) → ltb (digitOf n) 32 ≡ t → endOf n ≡ pick t 128 0 → 32 ≤ digitOf n
+        by true u v = absurd (omega arith)
+        by false u v = ltb-false (digitOf n) 32 u
 
-      same-c : c ≡ c₁
-      same-c = rw q at ec
+-- ---- m is all bits up to the first byte that ends a value
+data Mask (a b c d m : ℕ) : Type 0 where
+  in-one : endOf a ≡ 128 → m ≡ 255 → Mask a b c d m
+  in-two : endOf a ≡ 0 → endOf b ≡ 128 → m ≡ 65535 → Mask a b c d m
+  in-three : endOf a ≡ 0 → endOf b ≡ 0 → endOf c ≡ 128 → m ≡ 16777215 → Mask a b c d m
+  in-four : endOf a ≡ 0 → endOf b ≡ 0 → endOf c ≡ 0 → endOf d ≡ 128 → m ≡ 4294967295 → Mask a b c d m
 
-      three : ltb c 32 ≡ true → vlqAt s at ≡ Value bits 0 (at + 3)
-      three p =
-          let zd : d ≡ 0 = rw p at ed in
-          ends-here s at (a % 32 + b % 32 * 32) 2 (at + 2) c (second long) (omega arith) (small (at + 2)) (same-c ∙ ec₁) hc (omega arith) (ltb-true c 32 p) bits (at + 3) (omega arith) (omega arith) refl
+ones : (k y r f : ℕ) → 0 < r → r < 2 ^ k → f ≡ y * 2 ^ k + r → bitXor f (f - 1) ≡ bitXor r (r - 1)
+ones k y r f z h e =
+    let q : f - 1 ≡ y * 2 ^ k + (r - 1) = omega arith in
+    rw (q, e) (xor-block k y y r (r - 1) h (omega arith) ∙ ap (λ (x : ℕ). x * 2 ^ k + bitXor r (r - 1)) (xor-self y) ∙ omega arith)
 
-      four : ltb c 32 ≡ false → vlqAt s at ≡ Value bits 0 (at + 4)
-      four p =
-          let same-d : d ≡ d₁ = rw p at ed in
-          ends-here s at (a % 32 + b % 32 * 32 + c % 32 * 1024) 3 (at + 3) d third (omega arith) (small (at + 3)) (same-d ∙ ed₁) (omega arith) (omega arith) hd bits (at + 4) (omega arith) (omega arith) refl
-        where
-          third : Reading s at (a % 32 + b % 32 * 32 + c % 32 * 1024) 3 (at + 3)
-          third =
-              goes-on s at (a % 32 + b % 32 * 32) 2 (at + 2) c (second long) (omega arith) (small (at + 2)) (same-c ∙ ec₁) hc (omega arith) (ltb-false c 32 p)
-              (a % 32 + b % 32 * 32 + c % 32 * 1024) (at + 3) (omega arith) (omega arith)
+module _ (a b c d f m : ℕ) (ef : f ≡ word (endOf a) (endOf b) (endOf c) (endOf d)) (nf : f ≡ 0 → ⊥) (em : m ≡ bitXor f (f - 1)) where
+  mask-by : (endOf a ≡ 0) ⊎ (endOf a ≡ 128) → (endOf b ≡ 0) ⊎ (endOf b ≡ 128) → (endOf c ≡ 0) ⊎ (endOf c ≡ 128) → (endOf d ≡ 0) ⊎ (endOf d ≡ 128)
+      → Mask a b c d m
+  mask-by (inr p) x y z = in-one p (em ∙ ones 8 ((endOf d * 256 + endOf c) * 256 + endOf b) 128 f (omega arith) (omega arith) (omega arith))
+  mask-by (inl p) (inr q) y z = in-two p q (em ∙ ones 16 (endOf d * 256 + endOf c) 32768 f (omega arith) (omega arith) (omega arith))
+  mask-by (inl p) (inl q) (inr r) z = in-three p q r (em ∙ ones 24 (endOf d) 8388608 f (omega arith) (omega arith) (omega arith))
+  mask-by (inl p) (inl q) (inl r) (inr t) = in-four p q r t (em ∙ ones 32 0 2147483648 f (omega arith) (omega arith) (omega arith))
+  mask-by (inl p) (inl q) (inl r) (inl t) = absurd (nf (omega arith))
 
-    by : (t u : Bool) → ltb b 32 ≡ t → ltb c 32 ≡ u → vlqAt s at ≡ Value bits 0 (at + (2 + pick t 0 1 + pick u 0 1))
-    by true true q p = two q
-    by true false q p = let zc : c ≡ 0 = rw q at ec in let l : 32 ≤ c = ltb-false c 32 p in absurd (omega arith)
-    by false true q p = three q p
-    by false false q p = four q p
+-- what the mask leaves of four bytes
+module _ (v p q r t m : ℕ) (ev : v ≡ word p q r t) (hp : p < 256) (hq : q < 256) (hr : r < 256) (ht : t < 256) where
+  left-one : m ≡ 255 → bitAnd v m ≡ word p 0 0 0
+  left-one e = rw e (and-mask v 8 ∙ omega arith)
 
-    pub few : (count m n : ℕ) → m ≡ pick (ltb b 32) 0 1 → n ≡ pick (ltb c 32) 0 1 → count ≡ 2 + m + n → vlqAt s at ≡ Value bits 0 (at + count)
-    few count m n em en ek = rw (ek, em, en) (by (ltb b 32) (ltb c 32) refl refl)
+  left-two : m ≡ 65535 → bitAnd v m ≡ word p q 0 0
+  left-two e = rw e (and-mask v 16 ∙ omega arith)
+
+  left-three : m ≡ 16777215 → bitAnd v m ≡ word p q r 0
+  left-three e = rw e (and-mask v 24 ∙ omega arith)
+
+  left-four : m ≡ 4294967295 → bitAnd v m ≡ word p q r t
+  left-four e = rw e (and-mask v 32 ∙ omega arith)
+
+bits-word : (p q r t : ℕ) → p < 256 → q < 256 → r < 256 → bitsOf (word p q r t) ≡ p + q * 32 + r * 1024 + t * 32768
+bits-word p q r t hp hq hr = rw (first p q r t hp, second p q r t hp hq, third p q r t hp hq hr, fourth p q r t hp hq hr)
+
+counted : (a b c d m : ℕ) → Mask a b c d m → countOf m ≤ 4
+unfolding countOf
+counted a b c d m (in-one p e) = rw e (omega arith)
+counted a b c d m (in-two p q e) = rw e (omega arith)
+counted a b c d m (in-three p q r e) = rw e (omega arith)
+counted a b c d m (in-four p q r t e) = rw e (omega arith)
+
+-- ---- the number that the code makes is the one that stands there
+module _ (a b c d : ℕ) (pa : a < 128) (pb : b < 128) (pc : c < 128) (pd : d < 128) (m bad five bits count : ℕ)
+    (eb : bad ≡ word (badOf a) (badOf b) (badOf c) (badOf d)) (nb : bitAnd bad m ≡ 0)
+    (ef : five ≡ word (fiveOf a) (fiveOf b) (fiveOf c) (fiveOf d)) (ev : bits ≡ bitsOf (bitAnd five m)) (ec : count ≡ countOf m)
+    (s : List ℕ) (at : ℕ) (h : at + 4 ≤ length s)
+    (sa : getD s at 0 ≡ a) (sb : getD s (at + 1) 0 ≡ b) (sc : getD s (at + 2) 0 ≡ c) (sd : getD s (at + 3) 0 ≡ d) where
+  so : (v k : ℕ) → vlqAt s at ≡ Value v 0 (at + k) → v ≡ bits → k ≡ count → vlqAt s at ≡ Value bits 0 (at + count)
+  so v k e p q = e ∙ ap (λ (x : ℕ). Value x 0 (at + k)) p ∙ ap (λ (x : ℕ). Value bits 0 (at + x)) q
+
+  value : Mask a b c d m → vlqAt s at ≡ Value bits 0 (at + count)
+  unfolding countOf
+  value (in-one p e) =
+      let z = zeros (badOf a) 0 0 0 (sym (left-one bad (badOf a) (badOf b) (badOf c) (badOf d) m eb (bad-lt a pa) (bad-lt b pb) (bad-lt c pc) (bad-lt d pd) e) ∙ nb) in
+      let v : bits ≡ fiveOf a = ev ∙ ap bitsOf (left-one five (fiveOf a) (fiveOf b) (fiveOf c) (fiveOf d) m ef (five-lt a pa) (five-lt b pb) (five-lt c pc) (five-lt d pd) e) ∙ bits-word (fiveOf a) 0 0 0 (five-lt a pa) (omega arith) (omega arith) ∙ omega arith in
+      so (fiveOf a) 1
+      (one s at (fiveOf a) (fiveOf b) (fiveOf c) (fiveOf d) h (good a pa (z .0) (getD s at 0) sa) (last a pa (z .0) (getD s at 0) sa p))
+      (sym v) (sym (ec ∙ ap countOf e))
+  value (in-two p q e) =
+      let z = zeros (badOf a) (badOf b) 0 0 (sym (left-two bad (badOf a) (badOf b) (badOf c) (badOf d) m eb (bad-lt a pa) (bad-lt b pb) (bad-lt c pc) (bad-lt d pd) e) ∙ nb) in
+      let v : bits ≡ fiveOf a + fiveOf b * 32 = ev ∙ ap bitsOf (left-two five (fiveOf a) (fiveOf b) (fiveOf c) (fiveOf d) m ef (five-lt a pa) (five-lt b pb) (five-lt c pc) (five-lt d pd) e) ∙ bits-word (fiveOf a) (fiveOf b) 0 0 (five-lt a pa) (five-lt b pb) (omega arith) ∙ omega arith in
+      so (fiveOf a + fiveOf b * 32) 2
+      (two s at (fiveOf a) (fiveOf b) (fiveOf c) (fiveOf d) h (good a pa (z .0) (getD s at 0) sa) (not-last a pa (z .0) (getD s at 0) sa p)
+      (good b pb (z .1 .0) (getD s (at + 1) 0) sb) (last b pb (z .1 .0) (getD s (at + 1) 0) sb q))
+      (sym v) (sym (ec ∙ ap countOf e))
+  value (in-three p q r e) =
+      let z = zeros (badOf a) (badOf b) (badOf c) 0 (sym (left-three bad (badOf a) (badOf b) (badOf c) (badOf d) m eb (bad-lt a pa) (bad-lt b pb) (bad-lt c pc) (bad-lt d pd) e) ∙ nb) in
+      let v : bits ≡ fiveOf a + fiveOf b * 32 + fiveOf c * 1024 = ev ∙ ap bitsOf (left-three five (fiveOf a) (fiveOf b) (fiveOf c) (fiveOf d) m ef (five-lt a pa) (five-lt b pb) (five-lt c pc) (five-lt d pd) e) ∙ bits-word (fiveOf a) (fiveOf b) (fiveOf c) 0 (five-lt a pa) (five-lt b pb) (five-lt c pc) ∙ omega arith in
+      so (fiveOf a + fiveOf b * 32 + fiveOf c * 1024) 3
+      (three s at (fiveOf a) (fiveOf b) (fiveOf c) (fiveOf d) h (good a pa (z .0) (getD s at 0) sa) (not-last a pa (z .0) (getD s at 0) sa p)
+      (good b pb (z .1 .0) (getD s (at + 1) 0) sb) (not-last b pb (z .1 .0) (getD s (at + 1) 0) sb q)
+      (good c pc (z .1 .1 .0) (getD s (at + 2) 0) sc) (last c pc (z .1 .1 .0) (getD s (at + 2) 0) sc r))
+      (sym v) (sym (ec ∙ ap countOf e))
+  value (in-four p q r t e) =
+      let z = zeros (badOf a) (badOf b) (badOf c) (badOf d) (sym (left-four bad (badOf a) (badOf b) (badOf c) (badOf d) m eb (bad-lt a pa) (bad-lt b pb) (bad-lt c pc) (bad-lt d pd) e) ∙ nb) in
+      let v : bits ≡ fiveOf a + fiveOf b * 32 + fiveOf c * 1024 + fiveOf d * 32768 = ev ∙ ap bitsOf (left-four five (fiveOf a) (fiveOf b) (fiveOf c) (fiveOf d) m ef (five-lt a pa) (five-lt b pb) (five-lt c pc) (five-lt d pd) e) ∙ bits-word (fiveOf a) (fiveOf b) (fiveOf c) (fiveOf d) (five-lt a pa) (five-lt b pb) (five-lt c pc) in
+      so (fiveOf a + fiveOf b * 32 + fiveOf c * 1024 + fiveOf d * 32768) 4
+      (four s at (fiveOf a) (fiveOf b) (fiveOf c) (fiveOf d) h (good a pa (z .0) (getD s at 0) sa) (not-last a pa (z .0) (getD s at 0) sa p)
+      (good b pb (z .1 .0) (getD s (at + 1) 0) sb) (not-last b pb (z .1 .0) (getD s (at + 1) 0) sb q)
+      (good c pc (z .1 .1 .0) (getD s (at + 2) 0) sc) (not-last c pc (z .1 .1 .0) (getD s (at + 2) 0) sc r)
+      (good d pd (z .1 .1 .1) (getD s (at + 3) 0) sd) (last d pd (z .1 .1 .1) (getD s (at + 3) 0) sd t))
+      (sym v) (sym (ec ∙ ap countOf e))
+
+module _ (w : ℕ) (l : Lanes w) (f m bad five bits count : ℕ) (ee : f ≡ each endOf w) (nf : f ≡ 0 → ⊥) (em : m ≡ bitXor f (f - 1))
+    (eb : bad ≡ each badOf w) (nb : bitAnd bad m ≡ 0) (ef : five ≡ each fiveOf w) (ev : bits ≡ bitsOf (bitAnd five m)) (ec : count ≡ countOf m) where
+  mask : Mask (w % 256) (w / 256 % 256) (w / 65536 % 256) (w / 16777216) m
+  mask =
+      mask-by (w % 256) (w / 256 % 256) (w / 65536 % 256) (w / 16777216) f m ee nf em
+      (end-cases (w % 256) (l .first)) (end-cases (w / 256 % 256) (l .second)) (end-cases (w / 65536 % 256) (l .third)) (end-cases (w / 16777216) (l .fourth))
+
+  pub few : (count ≤ 4) × FewIn w bits count
+  few = (
+    rw ec (counted (w % 256) (w / 256 % 256) (w / 65536 % 256) (w / 16777216) m mask),
+    λ s at h small is q.
+        value (w % 256) (w / 256 % 256) (w / 65536 % 256) (w / 16777216) (l .first) (l .second) (l .third) (l .fourth)
+        m bad five bits count eb nb ef ev ec s at h
+        (sym (ap (λ (x : ℕ). x % 256) is ∙ first (getD s at 0) (getD s (at + 1) 0) (getD s (at + 2) 0) (getD s (at + 3) 0) (small at)))
+        (sym (ap (λ (x : ℕ). x / 256 % 256) is ∙ second (getD s at 0) (getD s (at + 1) 0) (getD s (at + 2) 0) (getD s (at + 3) 0) (small at) (small (at + 1))))
+        (sym (ap (λ (x : ℕ). x / 65536 % 256) is ∙ third (getD s at 0) (getD s (at + 1) 0) (getD s (at + 2) 0) (getD s (at + 3) 0) (small at) (small (at + 1)) (small (at + 2))))
+        (sym (ap (λ (x : ℕ). x / 16777216) is ∙ fourth (getD s at 0) (getD s (at + 1) 0) (getD s (at + 2) 0) (getD s (at + 3) 0) (small at) (small (at + 1)) (small (at + 2))))
+        mask,
+  )

@@ -166,13 +166,13 @@ pub one-digit : (s : List ℕ) (at : ℕ) → at < length s → isDelim (getD s 
 one-digit s at h e d =
     gives s at 0 0 at (start s at h e) h e (omega arith) d (digitOf (getD s at 0)) 0 (omega arith) refl
 
--- ---- the same as the code has it: d is what the table gives for the byte, w and v are d widened
-module _ (s : List ℕ) (at : ℕ) (small : getD s at 0 < 256) (h : at < length s) (d : ℕ) (ed : d ≡ classOf (getD s at 0)) where
-  pub begins-not : d ≡ 64 → End ≡ vlqAt s at
-  begins-not q = sym (at-delim s at h (is-delim (getD s at 0) d small ed q))
+-- ---- the same as the code has it: t tells whether the byte is a delimiter, d is what it reads as, w and v are d widened
+module _ (s : List ℕ) (at : ℕ) (h : at < length s) (t : Bool) (e : t ≡ isDelim (getD s at 0)) where
+  pub begins-not : t ≡ true → End ≡ vlqAt s at
+  begins-not q = sym (at-delim s at h (sym e ∙ q))
 
-  pub begins : (d ≡ 64 → ⊥) → Reading s at 0 0 at
-  begins n = start s at h (is-digit (getD s at 0) d small ed n .delim)
+  pub begins : t ≡ false → Reading s at 0 0 at
+  begins q = start s at h (sym e ∙ q)
 
 module _ (s : List ℕ) (at cur k i : ℕ) (r : Reading s at cur k i) (h : i < length s) (small : getD s i 0 < 256) (d : ℕ) (ed : d ≡ classOf (getD s i 0)) where
   pub cut-at : d ≡ 64 → Leftover i ≡ vlqAt s at

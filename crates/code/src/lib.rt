@@ -1,6 +1,7 @@
 // The codes of docs/RULES.md: what an entry says of its input, and the number that goes with it.
 ghost use mathlib.Core.Path.{_≡_};
 ghost use Rattle.code.specs.Code.{codeOf, numberOf};
+ghost use Rattle.code.specs.Narrow.{narrowOf};
 
 pub enum Code {
     Done,
@@ -43,9 +44,9 @@ pub fn code_of(c: Code) -> u64
     }
 }
 
-// The number that goes with the code; 0 where the table lists none.
-pub fn number_of(c: Code) -> u64
-    ensures { λ r. ⌜ r ≡ numberOf c ⌝ }
+// The number of a code that has one of 32 bits; 0 for every other.
+fn narrow_number(c: Code) -> u64
+    ensures { λ r. ⌜ r ≡ narrowOf c ⌝ }
 {
     match c {
         Code::Done => 0,
@@ -56,12 +57,22 @@ pub fn number_of(c: Code) -> u64
         Code::BadNameReference(n) => n as u64,
         Code::WideValue(n) => n as u64,
         Code::TableFull => 0,
-        Code::NoRoom(n) => n,
+        Code::NoRoom(_) => 0,
         Code::LineGoesBack(n) => n as u64,
         Code::BadChunk => 0,
         Code::BadTable => 0,
         Code::TooBig(n) => n as u64,
         Code::MoreThanOneSource => 0,
         Code::BadNames => 0,
+    }
+}
+
+// The number that goes with the code; 0 where the table lists none. Two questions in place of one take no table of jumps.
+pub fn number_of(c: Code) -> u64
+    ensures { λ r. ⌜ r ≡ numberOf c ⌝ }
+{
+    match c {
+        Code::NoRoom(n) => n,
+        _ => narrow_number(c),
     }
 }

@@ -12,6 +12,7 @@ use Rattle.token.proofs.Laws.{put-over, length-over}
 use Rattle.value.specs.declared.Mode.{Mode}
 use Rattle.apply.specs.declared.State.{State}
 use Rattle.step.specs.Step.{start, stepAt}
+use Rattle.step.specs.Ways.{Passed}
 use Rattle.step.specs.declared.Step.{Step}
 use Rattle.decode.specs.declared.Decoded.{Decoded}
 use Rattle.decode.specs.Mapping.{Out, stopped, tokenThen, full, placed, run, decoded, answer, Decodes}
@@ -48,6 +49,12 @@ module _ (mode : Mode) (sources names : ℕ) (text : List ℕ) where
   unfolding run
   run-put left s t begin s′ e = rw (← e)
 
+  -- only the step tells states apart
+  run-same : (left : ℕ) (s s′ : State) → steps s ≡ steps s′ → runs left s ≡ runs left s′
+  unfolding run
+  run-same zero s s′ e = ap (full (length text)) e
+  run-same (suc left) s s′ e = ap (λ (r : Step). placed (length text) r (run mode sources names text left)) e
+
   -- ts are decoded and stand in the table; what is left is to be decoded from s on
   pub record Sofar (table₀ table : List ℕ) (s : State) (tokens : ℕ) : Type 0 where
     pub ts : List Token
@@ -61,6 +68,16 @@ module _ (mode : Mode) (sources names : ℕ) (text : List ℕ) where
   begin table₀ s e =
       let z : places (length table₀) - 0 ≡ places (length table₀) = omega arith in
       record { ts = []; count = refl; room = omega arith; wrote = sym (onto-nil table₀); rest = rw (e, z) }
+
+  pub moves : (table₀ table : List ℕ) (s s′ : State) (tokens : ℕ) → Sofar table₀ table s tokens → Passed text s s′ → Sofar table₀ table s′ tokens
+  moves table₀ table s s′ tokens f p =
+      record {
+        ts = f .ts;
+        count = f .count;
+        room = f .room;
+        wrote = f .wrote;
+        rest = f .rest ∙ ap (before (f .ts)) (run-same (places (length table₀) - tokens) s s′ (p .same mode sources names));
+      }
 
   module _ (table₀ table : List ℕ) (s : State) (tokens : ℕ) (f : Sofar table₀ table s tokens) where
     pub long : length table ≡ length table₀

@@ -37,10 +37,10 @@ fn decode_in(mode: Mode, text: &[u8], sources: u32, names: u32, table: &mut [u32
     ensures { λ r. ⌜ Decodes mode sources names (now (text .entry)) (now (table .entry)) r (now (table .exit)) ⌝ }
 {
     let room = token::places_in(table.len());
-    let mut s = begun();
+    let mut s = step::next_segment(text, begun());
     let mut tokens: usize = 0;
     loop {
-        let next = step::next_token(text, mode, sources, names, s);
+        let next = step::take_segment(text, mode, sources, names, s);
         match next {
             Step::Done => {
                 return Decoded {
@@ -60,7 +60,7 @@ fn decode_in(mode: Mode, text: &[u8], sources: u32, names: u32, table: &mut [u32
                 if tokens < room {
                     token::put_token(table, tokens, t);
                     tokens += 1;
-                    s = after;
+                    s = step::next_after(text, after);
                 } else {
                     return Decoded {
                         code: Code::TableFull,

@@ -25,7 +25,7 @@ use Rattle.apply.specs.declared.About.{About}
 use Rattle.apply.specs.declared.Applied.{Applied}
 use Rattle.step.specs.declared.Step.{Step}
 use Rattle.step.specs.Step.{commaed, lined, offsetOf, stepped, segmentStep, stepFrom, stepAt}
-use Rattle.step.specs.Ways.{segmentedAt}
+use Rattle.step.specs.Ways.{segmentedAt, Passed}
 
 -- ---- a segment: g is what the segment reader gave
 module _ (mode : Mode) (sources names : ℕ) (text : List ℕ) (st : State) (g : Segment) (e : g ≡ segmentAt mode text (st .at)) where
@@ -71,43 +71,55 @@ unfolding isDelim
 above b h = sym (rw (ne-eqb b 44 (λ e. omega arith), ne-eqb b 59 (λ e. omega arith)))
 
 -- ---- the loop: what is left from st on is what was left at the start
-pub record Coming (mode : Mode) (sources names : ℕ) (text : List ℕ) (from st : State) : Type 0 where
-  pub is : stepAt mode sources names text from ≡ stepAt mode sources names text st
+pub record Coming (text : List ℕ) (from st : State) : Type 0 where
+  pub is : (mode : Mode) (sources names : ℕ) → stepAt mode sources names text from ≡ stepAt mode sources names text st
 
-pub begins : (mode : Mode) (sources names : ℕ) (text : List ℕ) (from : State) → Coming mode sources names text from from
-begins mode sources names text from = record { is = refl }
+pub begins : (text : List ℕ) (from : State) → Coming text from from
+begins text from = record { is = λ mode sources names. refl }
 
-module _ (mode : Mode) (sources names : ℕ) (text : List ℕ) (from st : State) (c : Coming mode sources names text from st) where
-  pub ends : length text ≤ st .at → Step.Done ≡ stepAt mode sources names text from
+pub over : (mode : Mode) (sources names : ℕ) (text : List ℕ) (st : State) → length text ≤ st .at → Step.Done ≡ stepAt mode sources names text st
+unfolding stepFrom
+over mode sources names text st h = sym (rw (drop-of-length-le text h))
+
+pub ends : (text : List ℕ) (from st : State) → Coming text from st → length text ≤ st .at → Passed text from st
+ends text from st c h = record { same = c .is; opens = λ l. absurd (omega arith) }
+
+pub stands : (text : List ℕ) (from st : State) → Coming text from st → (b : ℕ) → b ≡ getD text (st .at) 0 → isDelim b ≡ false → Passed text from st
+stands text from st c b eb d = record { same = c .is; opens = λ h. rw (← eb) d }
+
+-- b is the byte at the place
+module _ (text : List ℕ) (st : State) (h : st .at < length text) (b : ℕ) (eb : b ≡ getD text (st .at) 0) where
+  headed : drop (st .at) text ≡ b ∷ drop (st .at + 1) text
+  headed = rw (eb, add-one (st .at)) (drop-cons text (st .at) 0 h)
+
+  pub segment-at : isDelim b ≡ false → (mode : Mode) (sources names : ℕ) (r : Step) → r ≡ segmentedAt mode sources names text st → r ≡ stepAt mode sources names text st
+  unfolding stepFrom segmentAt
+  segment-at l mode sources names r er =
+      let n = neither b l in
+      er ∙ rw headed (sym (rw (n .0, n .1)))
+
+  crossed-by : (t u : Bool) → eqb b 44 ≡ t → eqb b 59 ≡ u → pick t true u ≡ true → (r : State) → r ≡ pick u (lined st) (commaed st)
+      → (mode : Mode) (sources names : ℕ) → stepAt mode sources names text st ≡ stepAt mode sources names text r
   unfolding stepFrom
-  ends h = sym (c .is ∙ rw (drop-of-length-le text h))
+  crossed-by true true p q w r er mode sources names = absurd (not-both b p q)
+  crossed-by true false p q w r er mode sources names = rw (headed, p, er)
+  crossed-by false true p q w r er mode sources names = rw (headed, p, q, er)
+  crossed-by false false p q w r er mode sources names = absurd (yes-no w)
 
-  -- b is the byte at the place, d whether it is a delimiter
-  module _ (h : st .at < length text) (b : ℕ) (eb : b ≡ getD text (st .at) 0) (d : Bool) (ed : d ≡ isDelim b) where
-    headed : drop (st .at) text ≡ b ∷ drop (st .at + 1) text
-    headed = rw (eb, add-one (st .at)) (drop-cons text (st .at) 0 h)
+  pub crosses : isDelim b ≡ true → (r : State) → r ≡ pick (eqb b 59) (lined st) (commaed st) → Coming text st r
+  unfolding isDelim
+  crosses l r er = record { is = crossed-by (eqb b 44) (eqb b 59) refl refl l r er }
 
-    pub segment-at : d ≡ false → (r : Step) → r ≡ segmentedAt mode sources names text st → r ≡ stepAt mode sources names text from
-    unfolding stepFrom segmentAt
-    segment-at l r er =
-        let n = neither b (sym ed ∙ l) in
-        er ∙ rw headed (sym (c .is ∙ rw (headed, n .0, n .1)))
+  pub less : (r : State) → r ≡ pick (eqb b 59) (lined st) (commaed st) → length text - r .at < length text - st .at
+  less r er = omega (arith, moved-on (eqb b 59) r er)
+    where
+      moved-on : (t : Bool) (r : State) → r ≡ pick t (lined st) (commaed st) → r .at ≡ st .at + 1
+      moved-on true r q = rw q
+      moved-on false r q = rw q
 
-    crossed-by : (t u : Bool) → eqb b 44 ≡ t → eqb b 59 ≡ u → pick t true u ≡ true → (r : State) → r ≡ pick u (lined st) (commaed st)
-        → stepAt mode sources names text from ≡ stepAt mode sources names text r
-    unfolding stepFrom
-    crossed-by true true p q w r er = absurd (not-both b p q)
-    crossed-by true false p q w r er = c .is ∙ rw (headed, p, er)
-    crossed-by false true p q w r er = c .is ∙ rw (headed, p, q, er)
-    crossed-by false false p q w r er = absurd (yes-no w)
+-- one after the other
+pub on : (text : List ℕ) (from st r : State) → Coming text from st → Coming text st r → Coming text from r
+on text from st r c d = record { is = λ mode sources names. c .is mode sources names ∙ d .is mode sources names }
 
-    pub crosses : d ≡ true → (r : State) → r ≡ pick (eqb b 59) (lined st) (commaed st) → Coming mode sources names text from r
-    unfolding isDelim
-    crosses l r er = record { is = crossed-by (eqb b 44) (eqb b 59) refl refl (sym ed ∙ l) r er }
-
-    pub less : (r : State) → r ≡ pick (eqb b 59) (lined st) (commaed st) → length text - r .at < length text - st .at
-    less r er = omega (arith, moved-on (eqb b 59) r er)
-      where
-        moved-on : (t : Bool) (r : State) → r ≡ pick t (lined st) (commaed st) → r .at ≡ st .at + 1
-        moved-on true r q = rw q
-        moved-on false r q = rw q
+pub passed-on : (text : List ℕ) (from st r : State) → Coming text from st → Passed text st r → Passed text from r
+passed-on text from st r c p = record { same = λ mode sources names. c .is mode sources names ∙ p .same mode sources names; opens = p .opens }

@@ -1,16 +1,20 @@
 -- Helpers: what inner contracts and proofs need; no contract of an entry and no theorem reaches this file.
--- The two ways that one segment is taken. Assumes nothing.
+-- The two ways that one segment is taken, and the ways between segments. Assumes nothing.
+use mathlib.Core.Path.{_≡_}
+use mathlib.Core.Bool.{true, false}
 use mathlib.Core.List.{List}
-use Prim.Native.Nat.{ℕ, _+_}
+use Prim.Native.Nat.{ℕ, _+_, _<_}
 use lib.Dec.{eqb}
+use lib.ListN.{length, getD}
 use Rattle.list.specs.Pick.{pick}
+use Rattle.digits.specs.Digits.{isDelim}
 use Rattle.token.specs.Table.{noId, token}
 use Rattle.value.specs.declared.Mode.{Mode}
 use Rattle.segment.specs.Segment.{segmentAt}
 use Rattle.apply.specs.Apply.{state}
 use Rattle.apply.specs.declared.State.{State}
 use Rattle.short.specs.declared.Near.{Near}
-use Rattle.step.specs.Step.{segmentStep}
+use Rattle.step.specs.Step.{segmentStep, stepAt}
 use Rattle.step.specs.declared.Step.{Step}
 
 -- the segment at the state's place of a whole text
@@ -22,3 +26,16 @@ abbrev pub shortStep : State → Near → ℕ → Step
 shortStep st n k =
     Step.Put (token (st .«dst_line») (n .«dst_col») (n .«src_line») (n .«src_col») (n .«source_id») (pick (eqb k 5) (n .«name_id») noId)) (st .at)
     (state (st .«dst_line») (n .«dst_col») (n .«src_line») (n .«src_col») (n .«source_id») (n .«name_id») (st .at + k))
+
+-- no delimiter stands at the state's place
+abbrev pub Opens : List ℕ → State → Type 0
+Opens text s = s .at < length text → isDelim (getD text (s .at) 0) ≡ false
+
+-- nothing else stands there
+abbrev pub Closes : List ℕ → State → Type 0
+Closes text s = s .at < length text → isDelim (getD text (s .at) 0) ≡ true
+
+-- from one state to another past delimiters: what comes is the same
+pub record Passed (text : List ℕ) (from r : State) : Type 0 where
+  pub same : (mode : Mode) (sources names : ℕ) → stepAt mode sources names text from ≡ stepAt mode sources names text r
+  pub opens : Opens text r

@@ -15,7 +15,7 @@ ghost use Rattle.list.specs.Pick.{pick};
 ghost use Rattle.token.specs.Table.{noId};
 ghost use Rattle.digits.specs.Digits.{isDelim};
 ghost use Rattle.step.specs.Step.{commaed, lined, offsetOf, stepped, stepAt};
-ghost use Rattle.step.specs.Ways.{segmentedAt, shortStep};
+ghost use Rattle.step.specs.Ways.{segmentedAt, shortStep, Opens, Closes, Passed};
 ghost use Rattle.short.specs.Short.{Fit};
 
 // The next token with its segment's start and the state after it; a refusal with its offset; or the end.
@@ -142,9 +142,9 @@ fn crossed(st: State, b: u8) -> State
     r
 }
 
-// The next token from the state's place on.
-pub fn next_token(s: &[u8], mode: Mode, sources: u32, names: u32, from: State) -> Step
-    ensures { λ r. ⌜ r ≡ stepAt mode sources names (now (s .entry)) from ⌝ }
+// Past the delimiters that stand at the state's place.
+pub fn next_segment(s: &[u8], from: State) -> State
+    ensures { λ r. ⌜ Passed (now (s .entry)) from r ⌝ }
 {
     let mut st = from;
     while st.at < s.len() {
@@ -153,8 +153,31 @@ pub fn next_token(s: &[u8], mode: Mode, sources: u32, names: u32, from: State) -
         if between(b) {
             st = crossed(st, b);
         } else {
-            return segment_step(s, mode, sources, names, st);
+            return st;
         }
+    }
+    st
+}
+
+// The same from the end of a segment on: the delimiter there need not be looked for.
+pub fn next_after(s: &[u8], st: State) -> State
+    requires { ⌜ Closes (now s) st ⌝ }
+    ensures { λ r. ⌜ Passed (now (s .entry)) st r ⌝ }
+{
+    let at = st.at;
+    if at < s.len() {
+        return next_segment(s, crossed(st, s[at]));
+    }
+    st
+}
+
+// The next token, where no delimiter stands at the state's place.
+pub fn take_segment(s: &[u8], mode: Mode, sources: u32, names: u32, st: State) -> Step
+    requires { ⌜ Opens (now s) st ⌝ }
+    ensures { λ r. ⌜ r ≡ stepAt mode sources names (now (s .entry)) st ⌝ }
+{
+    if st.at < s.len() {
+        return segment_step(s, mode, sources, names, st);
     }
     Step::Done
 }

@@ -1,7 +1,6 @@
 -- Helpers: what inner contracts and proofs need; no contract of an entry and no theorem reaches this file.
 -- The numbers of 32 bits. Assumes nothing.
 use Prim.Native.Nat.{ℕ}
-use Rattle.code.specs.Code.{numberOf}
 use Rattle.code.specs.declared.Code.{Code}
 use Rattle.code.specs.declared.Code.the-variants.{Done, VlqLeftover, VlqOverflow, BadSegmentSize, BadSourceReference, BadNameReference, WideValue, TableFull, NoRoom, LineGoesBack, BadChunk, BadTable, TooBig, MoreThanOneSource, BadNames}
 

@@ -14,8 +14,7 @@ use Rattle.apply.specs.declared.State.{State}
 use Rattle.step.specs.Step.{start, stepAt}
 use Rattle.step.specs.Ways.{Passed}
 use Rattle.step.specs.declared.Step.{Step}
-use Rattle.decode.specs.declared.Decoded.{Decoded}
-use Rattle.decode.specs.Mapping.{Out, stopped, tokenThen, full, placed, run, decoded, answer, Decodes}
+use Rattle.decode.specs.Mapping.{Out, stopped, tokenThen, full, placed, run, decoded, Decodes}
 
 -- tokens before others
 abbrev before : List Token → Out → Out

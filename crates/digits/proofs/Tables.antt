@@ -3,14 +3,12 @@
 use mathlib.Core.Path.{_≡_, refl, sym, _∙_, ap, subst}
 use mathlib.Core.Bool.{Bool, true, false}
 use mathlib.Core.Logic.{_⊎_, inl, inr}
-use mathlib.Core.List.{List, [], _∷_}
-use Prim.Native.Nat.{ℕ, _+_, _*_, _%_, _<_, _≤_}
+use Prim.Native.Nat.{ℕ, _+_, _*_, _%_, _<_}
 use native.Mathlib.Omega.{arith}
-use lib.Dec.{T, eqb, ltb, leb, eqb→eq, leb→le}
-use lib.ListN.{length, getD}
-use borrow.Author.Tests.{eq-eqb}
+use lib.Dec.{T, eqb, ltb, eqb→eq, leb→le}
+use lib.ListN.{getD}
 use Rattle.list.specs.Pick.{pick}
-use Rattle.list.proofs.Table.{both, at}
+use Rattle.list.proofs.Table.{at}
 use Rattle.digits.specs.Digits.{digitOf, isDelim, classOf, charOf}
 use Rattle.digits.specs.Tables.{writing}
 use Rattle.digits.proofs.Below as below

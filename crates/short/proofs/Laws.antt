@@ -9,7 +9,7 @@ use native.Mathlib.Omega.{arith}
 use lib.Bits.{bitOr, or-add-and, and-le-l, and-le-r}
 use lib.Dec.{eqb, ltb}
 use lib.ListN.{getD}
-use borrow.Author.Tests.{ltb-true, eqb-true, eqb-false, eq-eqb, ne-eqb}
+use borrow.Author.Tests.{eqb-false}
 use Rattle.list.specs.Pick.{pick}
 use Rattle.digits.specs.Digits.{digitOf, isDelim}
 use Rattle.digits.specs.Tables.{shortOf, word}

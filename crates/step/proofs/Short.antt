@@ -1,22 +1,19 @@
 -- The one-digit fast path and the general path agree wherever the fast path is taken. Assumes nothing.
 use mathlib.Core.Path.{_≡_, refl, sym, _∙_, ap, subst}
-use mathlib.Core.Bool.{true, false}
-use mathlib.Core.Logic.{_⊎_, inl, inr, ⊎-elim}
+use mathlib.Core.Bool.{true}
+use mathlib.Core.Logic.{_⊎_, ⊎-elim}
 use mathlib.Core.List.{List, [], _∷_}
 use Prim.Native.Nat.{ℕ, zero, suc, _+_, _%_, _^_, _<_, _≤_}
 use native.Mathlib.Nat.{add-zero}
 use native.Mathlib.Omega.{arith}
-use lib.Dec.{eqb}
 use lib.ListN.{length, drop, getD}
-use borrow.Author.Tests.{lt-ltb, eq-eqb, ne-eqb}
 use Rattle.digits.specs.Digits.{digitOf, isDelim}
 use Rattle.digits.specs.Tables.{shortOf, stepOf}
 use Rattle.value.specs.Value.{valueOf}
 use Rattle.value.specs.declared.Mode.{Mode}
 use Rattle.vlq.specs.declared.Vlq.the-variants.{End, Value}
 use Rattle.vlq.proofs.Steps.{at-delim, one-digit}
-use Rattle.segment.specs.Segment.{Field, Fields, whole, before, fieldsFrom, segmentOf, segmentAt}
-use Rattle.segment.specs.declared.Segment.{Segment}
+use Rattle.segment.specs.Segment.{Field, whole, before, fieldsFrom, segmentOf, segmentAt}
 use Rattle.segment.proofs.Reach.{answered, past}
 use Rattle.token.specs.Table.{noId}
 use Rattle.apply.specs.Apply.{state, shown, applied}

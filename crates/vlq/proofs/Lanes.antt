@@ -1,6 +1,6 @@
 -- Four bytes below 128 in one number: what is done to the number is done to each byte, since no byte carries into the next or borrows
 -- from it. What holds of one byte is computed at each of the 128. Assumes nothing.
-use mathlib.Core.Path.{_≡_, refl, sym, _∙_, ap, ap₂}
+use mathlib.Core.Path.{_≡_, sym, _∙_, ap, ap₂}
 use Prim.Native.Nat.{ℕ, _+_, _-_, _*_, _/_, _%_, _^_, _<_, _≤_}
 use native.Mathlib.Nat.{mul-div-cancel}
 use native.Mathlib.Omega.{arith}

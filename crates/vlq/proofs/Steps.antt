@@ -1,9 +1,9 @@
 -- The reader's loop, as laws of the definitions: where it starts, each of its ways out, and a turn.
 -- Assumes nothing.
-use mathlib.Core.Path.{_≡_, refl, sym, _∙_, ap, subst}
+use mathlib.Core.Path.{_≡_, refl, sym, _∙_, ap}
 use mathlib.Core.Bool.{Bool, true, false}
 use mathlib.Core.List.{List, [], _∷_}
-use Prim.Native.Nat.{ℕ, zero, suc, _+_, _-_, _*_, _/_, _%_, _^_, _<_, _≤_}
+use Prim.Native.Nat.{ℕ, suc, _+_, _-_, _*_, _/_, _%_, _^_, _<_, _≤_}
 use native.Mathlib.Nat.{mul-add, mul-assoc, mul-comm, mod-eq-of-lt, zero-add}
 use native.Mathlib.Numerals.{add-one}
 use native.Mathlib.Omega.{arith}
@@ -15,7 +15,6 @@ use Rattle.list.specs.Pick.{pick}
 use Rattle.digits.specs.Digits.{digitOf, isDelim, classOf}
 use Rattle.digits.proofs.Tables.{Digit, is-delim, is-digit}
 use Rattle.vlq.specs.Vlq.{Digits, cut, long, num, push, digitsFrom, vlqFrom, vlqOf, vlqAt}
-use Rattle.vlq.specs.declared.Vlq.{Vlq}
 use Rattle.vlq.specs.declared.Vlq.the-variants.{End, Value, Leftover, Overflow}
 use Rattle.vlq.proofs.Places.{place-next, put-exact, put-lt, lost-is}
 

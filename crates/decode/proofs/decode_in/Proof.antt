@@ -2,7 +2,6 @@
 use borrow.Author.Needs.{needs}
 use mathlib.Core.Path.{sym, _∙_}
 use Prim.Native.Nat.{_-_}
-use denote.Ref.{now}
 use Rattle.step.specs.Ways.{Opens}
 use Rattle.step.proofs.Ends.{closes}
 use Rattle.decode.proofs.Turn.{Sofar, begin, moves, long, ended, refused, no-place, place, less, put}

@@ -1,6 +1,5 @@
 -- `segment::next_field` meets its contract. Assumes nothing.
 use mathlib.Core.Path.{ap, _∙_}
-use lib.IntN.{ℤ}
 use Prim.Native.Nat.{ℕ}
 use Rattle.value.specs.Value.{valueOf}
 use Rattle.segment.proofs.OneDigit.{capital-field}

@@ -1,7 +1,6 @@
 -- `short::near_all` meets its contract. Assumes nothing.
 use Rattle.short.proofs.Laws.{moved}
 use mathlib.Core.Path.{refl}
-use native.Mathlib.Omega.{arith}
 use borrow.Author.Needs.{needs}
 use Rattle.short.proofs.near_all.Statement.{statement}
 use Rattle.short.proofs.near_all.Tie as tie

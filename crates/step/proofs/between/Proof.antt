@@ -1,5 +1,4 @@
 -- `step::between` meets its contract. Assumes nothing.
-use native.Mathlib.Omega.{arith}
 use Rattle.step.proofs.Laws.{above}
 use borrow.Author.Needs.{needs}
 use Rattle.step.proofs.between.Statement.{statement}

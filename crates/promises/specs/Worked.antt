@@ -20,7 +20,7 @@ use Rattle.decode.specs.Mapping.{Out, run, decoded}
 abbrev out : List Token → Code → ℕ → Out
 out tokens code offset = record { tokens = tokens; code = code; offset = offset }
 
--- a text, the counts of sources and names, and what each mode gives
+-- a text, the counts of sources and names, and what each mode gives, with room for two tokens
 pub record Row : Type 0 where
   pub text : List ℕ
   pub sources : ℕ
@@ -40,26 +40,44 @@ worked =
     alike ([]) 0 0 (out [] Code.Done 0) ∷
     -- `A`: 0 0 0 0 none none
     alike (65 ∷ []) 0 0 (out (token 0 0 0 0 noId noId ∷ []) Code.Done 1) ∷
-    -- `AAAA`: 4 with 0
-    alike (65 ∷ 65 ∷ 65 ∷ 65 ∷ []) 0 0 (out [] (Code.BadSourceReference 0) 0) ∷
-    -- `ACAA`: 4 with 0, not 1
-    alike (65 ∷ 67 ∷ 65 ∷ 65 ∷ []) 1 0 (out [] (Code.BadSourceReference 0) 0) ∷
-    -- `AAAAD`: 5 with 4294967295; checked 6 with 4
-    rowOf (65 ∷ 65 ∷ 65 ∷ 65 ∷ 68 ∷ []) 1 1 (out [] (Code.BadNameReference 4294967295) 0) (out [] (Code.WideValue 4) 0) ∷
-    -- `DAA`: 3 with 0
+    -- `AAAA`: 4 with 0, at 1
+    alike (65 ∷ 65 ∷ 65 ∷ 65 ∷ []) 0 0 (out [] (Code.BadSourceReference 0) 1) ∷
+    -- `ACAA`: 4 with 0, not 1, at 1
+    alike (65 ∷ 67 ∷ 65 ∷ 65 ∷ []) 1 0 (out [] (Code.BadSourceReference 0) 1) ∷
+    -- `AAAAD`: 5 with 4294967295; checked 6 with 4; at 4
+    rowOf (65 ∷ 65 ∷ 65 ∷ 65 ∷ 68 ∷ []) 1 1 (out [] (Code.BadNameReference 4294967295) 4) (out [] (Code.WideValue 4) 4) ∷
+    -- `DAA`: 3 with 0, at 0
     alike (68 ∷ 65 ∷ 65 ∷ []) 1 0 (out [] (Code.BadSegmentSize 0) 0) ∷
-    -- `AAA`: 3 with 3
+    -- `AADA`: 3 with 0, at 2
+    alike (65 ∷ 65 ∷ 68 ∷ 65 ∷ []) 1 0 (out [] (Code.BadSegmentSize 0) 2) ∷
+    -- `AAAD`: 3 with 0, at 3
+    alike (65 ∷ 65 ∷ 65 ∷ 68 ∷ []) 1 0 (out [] (Code.BadSegmentSize 0) 3) ∷
+    -- `gAADA`: 3 with 0, at 3
+    alike (103 ∷ 65 ∷ 65 ∷ 68 ∷ 65 ∷ []) 1 0 (out [] (Code.BadSegmentSize 0) 3) ∷
+    -- `AAA`: 3 with 3, at 0
     alike (65 ∷ 65 ∷ 65 ∷ []) 1 0 (out [] (Code.BadSegmentSize 3) 0) ∷
+    -- `AAAAAA`: 3 with 6, at 0
+    alike (65 ∷ 65 ∷ 65 ∷ 65 ∷ 65 ∷ 65 ∷ []) 1 1 (out [] (Code.BadSegmentSize 6) 0) ∷
     -- `+/////H`: column 4294967295, both modes
     alike (43 ∷ 47 ∷ 47 ∷ 47 ∷ 47 ∷ 47 ∷ 72 ∷ []) 0 0 (out (token 0 4294967295 0 0 noId noId ∷ []) Code.Done 7) ∷
-    -- six `g`, `I`: column 0; checked 6 with 0
+    -- six `g`, `I`: column 0; checked 6 with 0, at 0
     rowOf (103 ∷ 103 ∷ 103 ∷ 103 ∷ 103 ∷ 103 ∷ 73 ∷ []) 0 0 (out (token 0 0 0 0 noId noId ∷ []) Code.Done 7) (out [] (Code.WideValue 0) 0) ∷
+    -- `AA`, six `g`, `IA`: 0 0 0 0 0 none; checked 6 with 2, at 2
+    rowOf (65 ∷ 65 ∷ 103 ∷ 103 ∷ 103 ∷ 103 ∷ 103 ∷ 103 ∷ 73 ∷ 65 ∷ []) 1 0 (out (token 0 0 0 0 0 noId ∷ []) Code.Done 10) (out [] (Code.WideValue 2) 2) ∷
     -- twelve `g`, `A`: column 0
     alike (103 ∷ 103 ∷ 103 ∷ 103 ∷ 103 ∷ 103 ∷ 103 ∷ 103 ∷ 103 ∷ 103 ∷ 103 ∷ 103 ∷ 65 ∷ []) 0 0 (out (token 0 0 0 0 noId noId ∷ []) Code.Done 13) ∷
-    -- thirteen `g`, `A`: 2
-    alike (103 ∷ 103 ∷ 103 ∷ 103 ∷ 103 ∷ 103 ∷ 103 ∷ 103 ∷ 103 ∷ 103 ∷ 103 ∷ 103 ∷ 103 ∷ 65 ∷ []) 0 0 (out [] Code.VlqOverflow 0) ∷
-    -- `!A`: value -15, so 3 with 0
+    -- thirteen `g`, `A`: 2, at 13
+    alike (103 ∷ 103 ∷ 103 ∷ 103 ∷ 103 ∷ 103 ∷ 103 ∷ 103 ∷ 103 ∷ 103 ∷ 103 ∷ 103 ∷ 103 ∷ 65 ∷ []) 0 0 (out [] Code.VlqOverflow 13) ∷
+    -- thirteen `g`, `,`: 1, at 13
+    alike (103 ∷ 103 ∷ 103 ∷ 103 ∷ 103 ∷ 103 ∷ 103 ∷ 103 ∷ 103 ∷ 103 ∷ 103 ∷ 103 ∷ 103 ∷ 44 ∷ []) 0 0 (out [] Code.VlqLeftover 13) ∷
+    -- `!`: 1, at 1
+    alike (33 ∷ []) 0 0 (out [] Code.VlqLeftover 1) ∷
+    -- `A,!`: 0 0 0 0 none none; then 1, at 3
+    alike (65 ∷ 44 ∷ 33 ∷ []) 0 0 (out (token 0 0 0 0 noId noId ∷ []) Code.VlqLeftover 3) ∷
+    -- `!A`: value -15, so 3 with 0, at 0
     alike (33 ∷ 65 ∷ []) 0 0 (out [] (Code.BadSegmentSize 0) 0) ∷
+    -- `A,A,AAAA`, room for two: 0 0 0 0 none none twice; then 7, at 4
+    alike (65 ∷ 44 ∷ 65 ∷ 44 ∷ 65 ∷ 65 ∷ 65 ∷ 65 ∷ []) 1 0 (out (token 0 0 0 0 noId noId ∷ token 0 0 0 0 noId noId ∷ []) Code.TableFull 4) ∷
     -- `AAEG;C`: 0 0 2 3 0 none; 1 1 2 3 none none
     alike (65 ∷ 65 ∷ 69 ∷ 71 ∷ 59 ∷ 67 ∷ []) 1 0 (out (token 0 0 2 3 0 noId ∷ token 1 1 2 3 noId noId ∷ []) Code.Done 6) ∷
     []
@@ -75,7 +93,7 @@ Each (r ∷ rs) = Holds r × Each rs
 pub worked-texts : Each worked
 unfolding digitOf isDelim valueOf digitsFrom vlqOf fieldsFrom reducedOf sumOf idOf nameSumOf columned mapped named four five counted applied offsetOf segmentStep stepFrom run
 worked-texts =
-    ((refl, refl), ((refl, refl), ((refl, refl), ((refl, refl), ((refl, refl), ((refl, refl), ((refl, refl), ((refl, refl), ((refl, refl), ((refl, refl), ((refl, refl), ((refl, refl), ((refl, refl), tt)))))))))))))
+    ((refl, refl), ((refl, refl), ((refl, refl), ((refl, refl), ((refl, refl), ((refl, refl), ((refl, refl), ((refl, refl), ((refl, refl), ((refl, refl), ((refl, refl), ((refl, refl), ((refl, refl), ((refl, refl), ((refl, refl), ((refl, refl), ((refl, refl), ((refl, refl), ((refl, refl), ((refl, refl), ((refl, refl), ((refl, refl), tt))))))))))))))))))))))
 
 -- `!A`: the bytes read as 63 and 0, so the number is 31, and the value -15 in both modes
 pub value-of-a-bad-byte : (vlqAt (33 ∷ 65 ∷ []) 0 ≡ Vlq.Value 31 0 2) × ((valueOf Mode.Lenient 31 0 ≡ negsuc 14) × (valueOf Mode.Checked 31 0 ≡ negsuc 14))

@@ -16,7 +16,7 @@ use Rattle.token.specs.declared.Token.{Token}
 use Rattle.token.specs.declared.TokenChunk.{TokenChunk}
 use Rattle.digits.specs.Digits.{isDelim}
 use Rattle.value.specs.declared.Mode.{Mode}
-use Rattle.segment.specs.Segment.{Field, whole, fieldsFrom, segmentOf}
+use Rattle.segment.specs.Segment.{Field, whole, starts, fieldsFrom, segmentOf}
 use Rattle.apply.specs.declared.State.{State}
 use Rattle.step.specs.declared.Step.{Step}
 use Rattle.apply.specs.Apply.{applied}
@@ -40,7 +40,7 @@ no-delim false b e d = (e, d)
 segment-begins : (mode : Mode) (sources names : ℕ) (s : State) (b : ℕ) (bs : List ℕ) (fs : List Field) (next : ℕ) → isDelim b ≡ false
     → fieldsFrom mode 0 (s .at) (b ∷ bs) ≡ whole fs next
     → stepFrom mode sources names s (b ∷ bs)
-    ≡ stepped (s .at) (segmentOf (whole fs next) .starts) (applied mode sources names s (segmentOf (whole fs next)))
+    ≡ stepped (s .at) (starts fs) (applied mode sources names s (segmentOf (whole fs next)))
 unfolding stepFrom segmentStep isDelim
 segment-begins mode sources names s b bs fs next d e =
     let n = no-delim (eqb b 44) b refl d in

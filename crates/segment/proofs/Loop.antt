@@ -14,7 +14,7 @@ use Rattle.vlq.specs.Vlq.{vlqAt}
 use Rattle.vlq.specs.declared.Vlq.{Vlq}
 use Rattle.vlq.specs.declared.Vlq.the-variants.{End, Value, Leftover, Overflow}
 use Rattle.vlq.proofs.Values.{Read, value}
-use Rattle.segment.specs.Segment.{Field, Fields, whole, leftover, overflow, before, fieldThen, fieldsFrom, values, starts, zeros, zerosℕ, segmentOf, segmentAt}
+use Rattle.segment.specs.Segment.{Field, Fields, whole, leftover, overflow, before, fieldThen, fieldsFrom, values, zeros, segmentOf, segmentAt}
 use Rattle.segment.specs.declared.Ending.{Ending}
 use Rattle.segment.specs.declared.Segment.{Segment}
 use Rattle.segment.proofs.Five.{five, keeps, passes}
@@ -40,48 +40,38 @@ values-more : (fs : List Field) (f : Field) → values (fs ++ (f ∷ [])) ≡ va
 values-more [] f = refl
 values-more (g ∷ fs) f = ap (λ (l : List ℤ). g .value ∷ l) (values-more fs f)
 
-starts-more : (fs : List Field) (f : Field) → starts (fs ++ (f ∷ [])) ≡ starts fs ++ (f .start ∷ [])
-starts-more [] f = refl
-starts-more (g ∷ fs) f = ap (λ (l : List ℕ). g .start ∷ l) (starts-more fs f)
-
 length-values : (fs : List Field) → length (values fs) ≡ length fs
 length-values [] = refl
 length-values (f ∷ fs) = omega (arith, length-values fs)
 
-length-starts : (fs : List Field) → length (starts fs) ≡ length fs
-length-starts [] = refl
-length-starts (f ∷ fs) = omega (arith, length-starts fs)
-
 -- fields fs are read, up to i
-pub record Parsing (mode : Mode) (s : List ℕ) (at : ℕ) (nums : List ℤ) (begins : List ℕ) (count i : ℕ) : Type 0 where
+pub record Parsing (mode : Mode) (s : List ℕ) (at : ℕ) (nums : List ℤ) (count i : ℕ) : Type 0 where
   pub fs : List Field
   pub counted : length fs ≡ count
   pub kept : nums ≡ take 5 (values fs ++ zeros)
-  pub placed : begins ≡ take 5 (starts fs ++ zerosℕ)
   pub moved : at + count ≤ i
   pub few : count ≤ length s
   pub is : fieldsFrom mode 0 at (drop at s) ≡ onto fs (fieldsFrom mode 0 i (drop i s))
 
-pub start : (mode : Mode) (s : List ℕ) (at : ℕ) → Parsing mode s at zeros zerosℕ 0 at
+pub start : (mode : Mode) (s : List ℕ) (at : ℕ) → Parsing mode s at zeros 0 at
 start mode s at =
     record {
       fs = [];
       counted = refl;
       kept = refl;
-      placed = refl;
       moved = omega arith;
       few = omega arith;
       is = onto-none (fieldsFrom mode 0 at (drop at s));
     }
 
-module _ (mode : Mode) (s : List ℕ) (at : ℕ) (nums : List ℤ) (begins : List ℕ) (count i : ℕ) (p : Parsing mode s at nums begins count i) where
+module _ (mode : Mode) (s : List ℕ) (at : ℕ) (nums : List ℤ) (count i : ℕ) (p : Parsing mode s at nums count i) where
   step : (r : Vlq) → r ≡ vlqAt s i
       → fieldsFrom mode 0 at (drop at s) ≡ onto (p .fs) (fieldThen mode i r (λ next. fieldsFrom mode (next - (i + 1)) (i + 1) (drop 1 (drop i s))))
   step r e = p .is ∙ ap (onto (p .fs)) (answered mode s i r (sym e))
 
-  pub ends : End ≡ vlqAt s i → record { end = Ending.Whole; nums = nums; starts = begins; count = count; next = i } ≡ segmentAt mode s at
+  pub ends : End ≡ vlqAt s i → record { end = Ending.Whole; nums = nums; count = count; next = i } ≡ segmentAt mode s at
   unfolding segmentAt
-  ends e = sym (ap segmentOf (step End e) ∙ rw (append-nil (p .fs), ← p .kept, ← p .placed, p .counted))
+  ends e = sym (ap segmentOf (step End e) ∙ rw (append-nil (p .fs), ← p .kept, p .counted))
 
   pub cut : (place : ℕ) → Leftover place ≡ vlqAt s i → segmentOf (leftover place) ≡ segmentAt mode s at
   unfolding segmentAt
@@ -104,16 +94,13 @@ module _ (mode : Mode) (s : List ℕ) (at : ℕ) (nums : List ℤ) (begins : Lis
     pub count-fits : count + 1 ≤ length s
     count-fits = omega (arith, r .past, r .within, p .moved)
 
-    turn : (nums′ : List ℤ) (begins′ : List ℕ)
-        → nums′ ≡ take 5 ((values (p .fs) ++ (valueOf mode bits lost ∷ [])) ++ zeros) → begins′ ≡ take 5 ((starts (p .fs) ++ (i ∷ [])) ++ zerosℕ)
-        → Parsing mode s at nums′ begins′ (count + 1) next
-    turn nums′ begins′ k l =
+    turn : (nums′ : List ℤ) → nums′ ≡ take 5 ((values (p .fs) ++ (valueOf mode bits lost ∷ [])) ++ zeros) → Parsing mode s at nums′ (count + 1) next
+    turn nums′ k =
         let f : Field = record { value = valueOf mode bits lost; start = i } in
         record {
           fs = p .fs ++ (f ∷ []);
           counted = length-append (p .fs) (f ∷ []) ∙ omega (arith, p .counted);
           kept = k ∙ ap (λ (l : List ℤ). take 5 (l ++ zeros)) (sym (values-more (p .fs) f));
-          placed = l ∙ ap (λ (l : List ℕ). take 5 (l ++ zerosℕ)) (sym (starts-more (p .fs) f));
           moved = omega (arith, r .past, p .moved);
           few = count-fits;
           is =
@@ -123,15 +110,13 @@ module _ (mode : Mode) (s : List ℕ) (at : ℕ) (nums : List ℤ) (begins : Lis
         }
 
     -- x is the value that the code stores
-    pub stores : (x : ℤ) → x ≡ valueOf mode bits lost → count < 5 → Parsing mode s at (set nums count x) (set begins count i) (count + 1) next
+    pub stores : (x : ℤ) → x ≡ valueOf mode bits lost → count < 5 → Parsing mode s at (set nums count x) (count + 1) next
     stores x ex h =
-        turn (set nums count x) (set begins count i)
+        turn (set nums count x)
         (ap₂ (λ (l : List ℤ) (y : ℤ). set l count y) (p .kept) ex
         ∙ keeps (pos 0) (valueOf mode bits lost) (values (p .fs)) count (length-values (p .fs) ∙ p .counted) h)
-        (ap (λ (l : List ℕ). set l count i) (p .placed) ∙ keeps 0 i (starts (p .fs)) count (length-starts (p .fs) ∙ p .counted) h)
 
-    pub counts : 5 ≤ count → Parsing mode s at nums begins (count + 1) next
+    pub counts : 5 ≤ count → Parsing mode s at nums (count + 1) next
     counts h =
-        turn nums begins
+        turn nums
         (p .kept ∙ passes (pos 0) (valueOf mode bits lost) (values (p .fs)) count (length-values (p .fs) ∙ p .counted) h)
-        (p .placed ∙ passes 0 i (starts (p .fs)) count (length-starts (p .fs) ∙ p .counted) h)

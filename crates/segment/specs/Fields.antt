@@ -1,7 +1,11 @@
 -- Helpers: what inner contracts and proofs need; no contract of an entry and no theorem reaches this file.
--- One field as the loop over them takes it: a value in place of its bits. Assumes nothing.
-use mathlib.Core.List.{List}
-use Prim.Native.Nat.{ℕ}
+-- One field as the loop over them takes it: a value in place of its bits; and where a field begins, from its digits alone.
+-- Assumes nothing.
+use mathlib.Core.List.{List, [], _∷_}
+use Prim.Native.Nat.{ℕ, zero, suc, _+_}
+use lib.Dec.{ltb}
+use Rattle.list.specs.Pick.{pick}
+use Rattle.digits.specs.Digits.{classOf}
 use Rattle.value.specs.Value.{valueOf}
 use Rattle.value.specs.declared.Mode.{Mode}
 use Rattle.vlq.specs.Vlq.{vlqAt}
@@ -17,3 +21,9 @@ parsed mode (Overflow place) = Parsed.Overflow place
 
 unfoldable pub parsedAt : Mode → List ℕ → ℕ → Parsed
 parsedAt mode s at = parsed mode (vlqAt s at)
+
+-- the place past so many digits that end a value; the bytes stand at the place `at`
+unfoldable pub placeFrom : ℕ → ℕ → List ℕ → ℕ
+placeFrom zero at bs = at
+placeFrom (suc k) at [] = at
+placeFrom (suc k) at (b ∷ bs) = pick (ltb (classOf b) 32) (placeFrom k (at + 1) bs) (placeFrom (suc k) (at + 1) bs)

@@ -51,17 +51,14 @@ starts (f ∷ fs) = f .start ∷ starts fs
 abbrev pub zeros : List ℤ
 zeros = pos 0 ∷ pos 0 ∷ pos 0 ∷ pos 0 ∷ pos 0 ∷ []
 
-abbrev pub zerosℕ : List ℕ
-zerosℕ = 0 ∷ 0 ∷ 0 ∷ 0 ∷ 0 ∷ []
-
 -- a segment of which a value broke
 abbrev pub brokenAt : Ending → ℕ → Segment
-brokenAt end at = record { end = end; nums = zeros; starts = zerosℕ; count = 0; next = at }
+brokenAt end at = record { end = end; nums = zeros; count = 0; next = at }
 
 -- the first five fields, 0 where there are fewer, and how many there are in truth
 abbrev pub segmentOf : Fields → Segment
 segmentOf (whole fs next) =
-    record { end = Ending.Whole; nums = take 5 (values fs ++ zeros); starts = take 5 (starts fs ++ zerosℕ); count = length fs; next = next }
+    record { end = Ending.Whole; nums = take 5 (values fs ++ zeros); count = length fs; next = next }
 segmentOf (leftover at) = brokenAt (Ending.Leftover at) at
 segmentOf (overflow at) = brokenAt (Ending.Overflow at) at
 

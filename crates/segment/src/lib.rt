@@ -2,8 +2,9 @@
 use value::Mode;
 use vlq::Vlq;
 ghost use mathlib.Core.Path.{_≡_};
+ghost use lib.ListN.{drop};
 ghost use Rattle.segment.specs.Segment.{brokenAt, segmentAt};
-ghost use Rattle.segment.specs.Fields.{parsedAt};
+ghost use Rattle.segment.specs.Fields.{parsedAt, placeFrom};
 
 // How a segment ended: with a delimiter or the text, or where a value broke.
 pub enum Ending {
@@ -12,11 +13,10 @@ pub enum Ending {
     Overflow(usize),
 }
 
-// The first five values and where each begins, 0 where there are fewer; how many there are; and the place after them.
+// The first five values, 0 where there are fewer; how many there are; and the place after them.
 pub struct Segment {
     pub end: Ending,
     pub nums: [i64; 5],
-    pub starts: [usize; 5],
     pub count: usize,
     pub next: usize,
 }
@@ -68,7 +68,6 @@ fn broken(end: Ending, at: usize) -> Segment
     Segment {
         end,
         nums: [0i64; 5],
-        starts: [0usize; 5],
         count: 0,
         next: at,
     }
@@ -78,7 +77,6 @@ pub fn parse_vlq_segment(s: &[u8], mode: Mode, at: usize) -> Segment
     ensures { λ r. ⌜ r ≡ segmentAt mode (now (s .entry)) at ⌝ }
 {
     let mut nums = [0i64; 5];
-    let mut starts = [0usize; 5];
     let mut count: usize = 0;
     let mut i = at;
     loop {
@@ -88,7 +86,6 @@ pub fn parse_vlq_segment(s: &[u8], mode: Mode, at: usize) -> Segment
                 return Segment {
                     end: Ending::Whole,
                     nums,
-                    starts,
                     count,
                     next: i,
                 };
@@ -102,11 +99,29 @@ pub fn parse_vlq_segment(s: &[u8], mode: Mode, at: usize) -> Segment
             Parsed::Value(x, next) => {
                 if count < 5 {
                     nums[count] = x;
-                    starts[count] = i;
                 }
                 i = next;
             }
         }
         count += 1;
     }
+}
+
+// Where a field of the segment at a place begins: past so many digits that end a value. Only a refusal asks, so that taking a segment
+// does not keep the places.
+pub fn field_at(s: &[u8], at: usize, field: u32) -> usize
+    ensures { λ r. ⌜ r ≡ placeFrom field at (drop at (now (s .entry))) ⌝ }
+{
+    let mut i = at;
+    let mut k = field;
+    while i < s.len() {
+        if k == 0 {
+            return i;
+        }
+        if digits::code_of(s[i]) < 32 {
+            k -= 1;
+        }
+        i += 1;
+    }
+    i
 }

@@ -10,7 +10,7 @@ use lib.Seq.{drop-cons, drop-drop}
 use Rattle.list.specs.Pick.{pick}
 use Rattle.token.specs.declared.Token.{Token}
 use Rattle.value.specs.declared.Mode.{Mode}
-use Rattle.segment.specs.Segment.{Fields, whole, leftover, overflow, segmentOf, fieldsFrom}
+use Rattle.segment.specs.Segment.{Fields, whole, leftover, overflow, starts, segmentOf, fieldsFrom}
 use Rattle.segment.proofs.Border.{Border, Ends, ends}
 use Rattle.apply.specs.Apply.{applied}
 use Rattle.apply.specs.declared.State.{State}
@@ -34,7 +34,7 @@ module _ (mode : Mode) (sources names : ℕ) where
   later s s₁ b bs (Step.Refuse code offset) e h = tt
   later s s₁ b bs Step.Done e h = tt
 
-  segment-at : (s : State) (bs : List ℕ) (f : Fields) → fieldsFrom mode 0 (s .at) bs ≡ f → At s bs (segmentStep mode sources names s (segmentOf f) (segmentOf f .end))
+  segment-at : (s : State) (bs : List ℕ) (f : Fields) → fieldsFrom mode 0 (s .at) bs ≡ f → At s bs (segmentStep mode sources names s f)
   unfolding segmentStep
   segment-at s bs (leftover place) e = tt
   segment-at s bs (overflow place) e = tt
@@ -44,7 +44,7 @@ module _ (mode : Mode) (sources names : ℕ) where
       border : Ends (s .at) bs (whole fs next)
       border = subst (Ends (s .at) bs) e (ends mode 0 (s .at) bs)
 
-      by : (a : Applied) → Lands next a → At s bs (stepped (s .at) (segmentOf (whole fs next) .starts) a)
+      by : (a : Applied) → Lands next a → At s bs (stepped (s .at) (starts fs) a)
       by (Applied.Took t s′) l = rw l border
       by (Applied.Refused code about) l = tt
 
@@ -57,7 +57,7 @@ module _ (mode : Mode) (sources names : ℕ) where
           → At s (b ∷ bs)
           (pick x (stepFrom mode sources names (commaed s) bs)
           (pick y (stepFrom mode sources names (lined s) bs)
-          (segmentStep mode sources names s (segmentOf (fieldsFrom mode 0 (s .at) (b ∷ bs))) (segmentOf (fieldsFrom mode 0 (s .at) (b ∷ bs)) .end))))
+          (segmentStep mode sources names s (fieldsFrom mode 0 (s .at) (b ∷ bs)))))
       by true y u v = later s (commaed s) b bs (stepFrom mode sources names (commaed s) bs) refl u
       by false true u v = later s (lined s) b bs (stepFrom mode sources names (lined s) bs) refl v
       by false false u v = segment-at s (b ∷ bs) (fieldsFrom mode 0 (s .at) (b ∷ bs)) refl

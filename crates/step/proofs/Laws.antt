@@ -1,8 +1,8 @@
 -- A segment in general, and the loop over delimiters, on the definitions alone. Assumes nothing.
 use mathlib.Core.Path.{_≡_, refl, sym, _∙_, ap, subst}
 use mathlib.Core.Bool.{Bool, true, false}
-use mathlib.Core.List.{List, _∷_}
-use Prim.Native.Nat.{ℕ, _+_, _-_, _<_, _≤_}
+use mathlib.Core.List.{List, [], _∷_}
+use Prim.Native.Nat.{ℕ, zero, suc, _+_, _-_, _<_, _≤_}
 use native.Mathlib.Numerals.{add-one}
 use native.Mathlib.Omega.{arith}
 use lib.Dec.{T, eqb}
@@ -13,41 +13,93 @@ use Rattle.list.specs.Pick.{pick}
 use Rattle.code.specs.declared.Code.{Code}
 use Rattle.digits.specs.Digits.{isDelim}
 use Rattle.value.specs.declared.Mode.{Mode}
-use Rattle.segment.specs.Segment.{segmentAt}
+use Rattle.segment.specs.Segment.{Field, Fields, whole, leftover, overflow, starts, fieldsFrom, segmentOf, segmentAt}
+use Rattle.segment.specs.Fields.{placeFrom}
 use Rattle.segment.specs.declared.Ending.{Ending}
 use Rattle.segment.specs.declared.Segment.{Segment}
 use Rattle.segment.proofs.Range.{nums-small}
+use Rattle.segment.proofs.Places.{own}
 use Rattle.apply.specs.Apply.{applied}
 use Rattle.apply.specs.Small.{Small}
 use Rattle.apply.specs.declared.State.{State}
 use Rattle.apply.specs.declared.About.{About}
 use Rattle.apply.specs.declared.Applied.{Applied}
+use Rattle.apply.proofs.Points.{Pointed, Points, points}
 use Rattle.step.specs.declared.Step.{Step}
 use Rattle.step.specs.Step.{commaed, lined, offsetOf, stepped, segmentStep, stepFrom, stepAt}
-use Rattle.step.specs.Ways.{segmentedAt, Passed}
+use Rattle.step.specs.Ways.{segmentedAt, offsetIn, steppedIn, Passed}
+
+-- ---- where the fault of a whole segment lies: the place that is looked for is the field's own
+module _ (mode : Mode) (text : List ℕ) (begin next : ℕ) (fs : List Field) (e : fieldsFrom mode 0 begin (drop begin text) ≡ whole fs next) where
+  place-by : (field : ℕ) → (0 < field → field < length fs) → (fs′ : List Field) → fs ≡ fs′ → placeFrom field begin (drop begin text) ≡ getD (starts fs) field begin
+  unfolding placeFrom
+  place-by zero h [] q = rw q
+  place-by zero h (f ∷ gs) q = own mode 0 begin (drop begin text) fs next begin e (omega (arith, ap length q))
+  place-by (suc field) h fs′ q = own mode (suc field) begin (drop begin text) fs next begin e (h (omega arith))
+
+  place-is : (about : About) → Pointed (length fs) about → offsetIn text begin about ≡ offsetOf begin (starts fs) about
+  unfolding offsetOf
+  place-is About.Whole p = refl
+  place-is (About.Field field) p = place-by field p fs refl
+  place-is (About.Place place) p = absurd p
+
+  pub step-is : (a : Applied) → Points (length fs) a → steppedIn text begin a ≡ stepped begin (starts fs) a
+  step-is (Applied.Took t s) p = refl
+  step-is (Applied.Refused code about) p = ap (Step.Refuse code) (place-is about p)
 
 -- ---- a segment: g is what the segment reader gave
 module _ (mode : Mode) (sources names : ℕ) (text : List ℕ) (st : State) (g : Segment) (e : g ≡ segmentAt mode text (st .at)) where
   pub small : Small g
   small = record { small = λ i. rw e (nums-small mode text (st .at) i) }
 
-  opened : (end : Ending) → g .end ≡ end → segmentedAt mode sources names text st ≡ segmentStep mode sources names st g end
-  opened end q = rw (← e, q)
+  abbrev is-from : Fields → Type 0
+  is-from f = fieldsFrom mode 0 (st .at) (drop (st .at) text) ≡ f
 
-  pub general-whole : g .end ≡ Ending.Whole → (a : Applied) → a ≡ applied mode sources names st g → (r : Step) → r ≡ stepped (st .at) (g .starts) a
+  given : (f : Fields) → is-from f → g ≡ segmentOf f
+  unfolding segmentAt
+  given f q = e ∙ ap segmentOf q
+
+  zero-one : {A : Type 0} → _≡_ {A = ℕ} 0 1 → A
+  zero-one z = absurd (omega arith)
+
+  pub general-whole : g .end ≡ Ending.Whole → (a : Applied) → a ≡ applied mode sources names st g → (r : Step) → r ≡ steppedIn text (st .at) a
       → r ≡ segmentedAt mode sources names text st
   unfolding segmentStep
-  general-whole q a ea r er = er ∙ ap (stepped (st .at) (g .starts)) ea ∙ sym (opened Ending.Whole q)
+  general-whole w a ea r er = by (fieldsFrom mode 0 (st .at) (drop (st .at) text)) refl
+    where
+      by : (f : Fields) → is-from f → r ≡ segmentedAt mode sources names text st
+      by (whole fs next) q =
+          er ∙ ap (steppedIn text (st .at)) (ea ∙ ap (applied mode sources names st) (given (whole fs next) q))
+          ∙ step-is mode text (st .at) next fs q (applied mode sources names st (segmentOf (whole fs next))) (points mode sources names (segmentOf (whole fs next)) st)
+          ∙ sym (rw q)
+      by (leftover place) q = let z : Ending.Whole ≡ Ending.Leftover place = sym w ∙ ap (λ (x : Segment). x .end) (given (leftover place) q) in zero-one cc
+      by (overflow place) q = let z : Ending.Whole ≡ Ending.Overflow place = sym w ∙ ap (λ (x : Segment). x .end) (given (overflow place) q) in zero-one cc
 
-  pub general-leftover : (place : ℕ) → g .end ≡ Ending.Leftover place → (o : ℕ) → o ≡ offsetOf (st .at) (g .starts) (About.Place place)
+  pub general-leftover : (place : ℕ) → g .end ≡ Ending.Leftover place → (o : ℕ) → o ≡ offsetIn text (st .at) (About.Place place)
       → Step.Refuse Code.VlqLeftover o ≡ segmentedAt mode sources names text st
-  unfolding segmentStep
-  general-leftover place q o eo = ap (Step.Refuse Code.VlqLeftover) eo ∙ sym (opened (Ending.Leftover place) q)
+  unfolding segmentStep offsetOf
+  general-leftover place w o eo = by (fieldsFrom mode 0 (st .at) (drop (st .at) text)) refl
+    where
+      by : (f : Fields) → is-from f → Step.Refuse Code.VlqLeftover o ≡ segmentedAt mode sources names text st
+      by (whole fs next) q = let z : Ending.Leftover place ≡ Ending.Whole = sym w ∙ ap (λ (x : Segment). x .end) (given (whole fs next) q) in zero-one cc
+      by (leftover p) q =
+          let z : Ending.Leftover place ≡ Ending.Leftover p = sym w ∙ ap (λ (x : Segment). x .end) (given (leftover p) q) in
+          let y : place ≡ p = cc in
+          ap (Step.Refuse Code.VlqLeftover) (eo ∙ y) ∙ sym (rw q)
+      by (overflow p) q = let z : Ending.Leftover place ≡ Ending.Overflow p = sym w ∙ ap (λ (x : Segment). x .end) (given (overflow p) q) in zero-one cc
 
-  pub general-overflow : (place : ℕ) → g .end ≡ Ending.Overflow place → (o : ℕ) → o ≡ offsetOf (st .at) (g .starts) (About.Place place)
+  pub general-overflow : (place : ℕ) → g .end ≡ Ending.Overflow place → (o : ℕ) → o ≡ offsetIn text (st .at) (About.Place place)
       → Step.Refuse Code.VlqOverflow o ≡ segmentedAt mode sources names text st
-  unfolding segmentStep
-  general-overflow place q o eo = ap (Step.Refuse Code.VlqOverflow) eo ∙ sym (opened (Ending.Overflow place) q)
+  unfolding segmentStep offsetOf
+  general-overflow place w o eo = by (fieldsFrom mode 0 (st .at) (drop (st .at) text)) refl
+    where
+      by : (f : Fields) → is-from f → Step.Refuse Code.VlqOverflow o ≡ segmentedAt mode sources names text st
+      by (whole fs next) q = let z : Ending.Overflow place ≡ Ending.Whole = sym w ∙ ap (λ (x : Segment). x .end) (given (whole fs next) q) in zero-one cc
+      by (leftover p) q = let z : Ending.Overflow place ≡ Ending.Leftover p = sym w ∙ ap (λ (x : Segment). x .end) (given (leftover p) q) in zero-one cc
+      by (overflow p) q =
+          let z : Ending.Overflow place ≡ Ending.Overflow p = sym w ∙ ap (λ (x : Segment). x .end) (given (overflow p) q) in
+          let y : place ≡ p = cc in
+          ap (Step.Refuse Code.VlqOverflow) (eo ∙ y) ∙ sym (rw q)
 
 -- ---- the two delimiters
 yes-no : false ≡ true → ⊥

@@ -5,21 +5,35 @@ use mathlib.Core.Bool.{true, false}
 use mathlib.Core.List.{List}
 use Prim.Native.Nat.{ℕ, _+_, _<_}
 use lib.Dec.{eqb}
-use lib.ListN.{length, getD}
+use lib.ListN.{length, drop, getD}
 use Rattle.list.specs.Pick.{pick}
 use Rattle.digits.specs.Digits.{isDelim}
 use Rattle.token.specs.Table.{noId, token}
 use Rattle.value.specs.declared.Mode.{Mode}
-use Rattle.segment.specs.Segment.{segmentAt}
+use Rattle.segment.specs.Segment.{fieldsFrom}
+use Rattle.segment.specs.Fields.{placeFrom}
 use Rattle.apply.specs.Apply.{state}
+use Rattle.code.specs.declared.Code.{Code}
 use Rattle.apply.specs.declared.State.{State}
+use Rattle.apply.specs.declared.About.{About}
+use Rattle.apply.specs.declared.Applied.{Applied}
 use Rattle.short.specs.declared.Near.{Near}
 use Rattle.step.specs.Step.{segmentStep, stepAt}
 use Rattle.step.specs.declared.Step.{Step}
 
 -- the segment at the state's place of a whole text
 abbrev pub segmentedAt : Mode → ℕ → ℕ → List ℕ → State → Step
-segmentedAt mode sources names text s = segmentStep mode sources names s (segmentAt mode text (s .at)) (segmentAt mode text (s .at) .end)
+segmentedAt mode sources names text s = segmentStep mode sources names s (fieldsFrom mode 0 (s .at) (drop (s .at) text))
+
+-- where the fault lies, the field's place looked for in the text; that it is the field's own is proved
+abbrev pub offsetIn : List ℕ → ℕ → About → ℕ
+offsetIn text begin About.Whole = begin
+offsetIn text begin (About.Field field) = placeFrom field begin (drop begin text)
+offsetIn text begin (About.Place place) = place
+
+abbrev pub steppedIn : List ℕ → ℕ → Applied → Step
+steppedIn text begin (Applied.Took t s) = Step.Put t begin s
+steppedIn text begin (Applied.Refused code about) = Step.Refuse code (offsetIn text begin about)
 
 -- the step that the short way makes; that it is the segment's own is proved
 abbrev pub shortStep : State → Near → ℕ → Step

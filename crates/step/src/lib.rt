@@ -14,8 +14,8 @@ ghost use lib.Dec.{eqb};
 ghost use Rattle.list.specs.Pick.{pick};
 ghost use Rattle.token.specs.Table.{noId};
 ghost use Rattle.digits.specs.Digits.{isDelim};
-ghost use Rattle.step.specs.Step.{commaed, lined, offsetOf, stepped, stepAt};
-ghost use Rattle.step.specs.Ways.{segmentedAt, shortStep, Opens, Closes, Passed};
+ghost use Rattle.step.specs.Step.{commaed, lined, stepAt};
+ghost use Rattle.step.specs.Ways.{segmentedAt, offsetIn, steppedIn, shortStep, Opens, Closes, Passed};
 ghost use Rattle.short.specs.Short.{Fit};
 
 // The next token with its segment's start and the state after it; a refusal with its offset; or the end.
@@ -25,19 +25,23 @@ pub enum Step {
     Done,
 }
 
-// The one place where a refusal's offset is chosen: the segment's start, whatever the refusal is about.
-fn offset_of(begin: usize, starts: [usize; 5], about: About) -> usize
-    ensures { λ r. ⌜ r ≡ offsetOf begin starts about ⌝ }
+// The one place where a refusal's offset is chosen.
+fn offset_of(s: &[u8], begin: usize, about: About) -> usize
+    ensures { λ r. ⌜ r ≡ offsetIn (now (s .entry)) begin about ⌝ }
 {
-    begin
+    match about {
+        About::Whole => begin,
+        About::Field(field) => segment::field_at(s, begin, field),
+        About::Place(place) => place,
+    }
 }
 
-fn step_of(begin: usize, starts: [usize; 5], a: Applied) -> Step
-    ensures { λ r. ⌜ r ≡ stepped begin starts a ⌝ }
+fn step_of(s: &[u8], begin: usize, a: Applied) -> Step
+    ensures { λ r. ⌜ r ≡ steppedIn (now (s .entry)) begin a ⌝ }
 {
     match a {
-        Applied::Took(t, s) => Step::Put(t, begin, s),
-        Applied::Refused(code, about) => Step::Refuse(code, offset_of(begin, starts, about)),
+        Applied::Took(t, st) => Step::Put(t, begin, st),
+        Applied::Refused(code, about) => Step::Refuse(code, offset_of(s, begin, about)),
     }
 }
 
@@ -47,20 +51,19 @@ fn general_step(s: &[u8], mode: Mode, sources: u32, names: u32, st: State) -> St
 {
     let g = segment::parse_vlq_segment(s, mode, st.at);
     let end = g.end;
-    let starts = g.starts;
     match end {
         Ending::Whole => step_of(
+            s,
             st.at,
-            starts,
             apply::apply_segment(mode, sources, names, st, g),
         ),
         Ending::Leftover(place) => Step::Refuse(
             Code::VlqLeftover,
-            offset_of(st.at, starts, About::Place(place)),
+            offset_of(s, st.at, About::Place(place)),
         ),
         Ending::Overflow(place) => Step::Refuse(
             Code::VlqOverflow,
-            offset_of(st.at, starts, About::Place(place)),
+            offset_of(s, st.at, About::Place(place)),
         ),
     }
 }

@@ -15,14 +15,14 @@ use Rattle.token.specs.Table.{width, places}
 use Rattle.token.specs.declared.Token.{Token}
 use Rattle.digits.specs.Digits.{isDelim}
 use Rattle.value.specs.declared.Mode.{Mode}
-use Rattle.segment.specs.Segment.{Fields, whole, leftover, overflow, segmentOf, fieldsFrom}
+use Rattle.segment.specs.Segment.{Fields, whole, leftover, overflow, starts, segmentOf, fieldsFrom}
 use Rattle.segment.proofs.Border.{Border, Ends, ends}
 use Rattle.apply.specs.declared.State.{State}
 use Rattle.apply.specs.declared.Applied.{Applied}
 use Rattle.apply.specs.Apply.{applied}
 use Rattle.apply.proofs.Lands.{Plain, Lands, lands}
 use Rattle.step.specs.declared.Step.{Step}
-use Rattle.step.specs.Step.{start, commaed, lined, offsetOf, stepped, segmentStep, stepFrom, stepAt}
+use Rattle.step.specs.Step.{start, commaed, lined, stepped, segmentStep, stepFrom, stepAt}
 use Rattle.decode.specs.Mapping.{Out, stopped, tokenThen, full, placed, run, decoded}
 use Rattle.table_size.specs.Size.{segmentsFrom, tableSize, NeverFull}
 
@@ -87,7 +87,7 @@ module _ (mode : Mode) (sources names : ℕ) where
   later s s₁ b bs Step.Done e d h = tt
 
   step-fewer : (s : State) (b : ℕ) (bs : List ℕ) → isDelim b ≡ false → (f : Fields) → fieldsFrom mode 0 (s .at) (b ∷ bs) ≡ f
-      → Fewer s (b ∷ bs) (segmentStep mode sources names s (segmentOf f) (segmentOf f .end))
+      → Fewer s (b ∷ bs) (segmentStep mode sources names s f)
   unfolding segmentStep
   step-fewer s b bs d (leftover place) e = λ q. omega arith
   step-fewer s b bs d (overflow place) e = λ q. omega arith
@@ -97,7 +97,7 @@ module _ (mode : Mode) (sources names : ℕ) where
       border : Ends (s .at) (b ∷ bs) (whole fs next)
       border = subst (Ends (s .at) (b ∷ bs)) e (ends mode 0 (s .at) (b ∷ bs))
 
-      by : (a : Applied) → Lands next a → Fewer s (b ∷ bs) (stepped (s .at) (segmentOf (whole fs next) .starts) a)
+      by : (a : Applied) → Lands next a → Fewer s (b ∷ bs) (stepped (s .at) (starts fs) a)
       by (Applied.Took t s′) l = rw l (past (s .at) next b bs d (border .0) (border .1))
       by (Applied.Refused code about) l = l
 
@@ -111,7 +111,7 @@ module _ (mode : Mode) (sources names : ℕ) where
           → Fewer s (b ∷ bs)
           (pick x (stepFrom mode sources names (commaed s) bs)
           (pick y (stepFrom mode sources names (lined s) bs)
-          (segmentStep mode sources names s (segmentOf (fieldsFrom mode 0 (s .at) (b ∷ bs))) (segmentOf (fieldsFrom mode 0 (s .at) (b ∷ bs)) .end))))
+          (segmentStep mode sources names s (fieldsFrom mode 0 (s .at) (b ∷ bs)))))
       by true y p q u v = later s (commaed s) b bs (stepFrom mode sources names (commaed s) bs) refl (rw p) u
       by false true p q u v = later s (lined s) b bs (stepFrom mode sources names (lined s) bs) refl (rw (p, q)) v
       by false false p q u v = step-fewer s b bs (rw (p, q)) (fieldsFrom mode 0 (s .at) (b ∷ bs)) refl

@@ -11,10 +11,10 @@ use Rattle.segment.proofs.parse_vlq_segment.Statement.{statement}
 use Rattle.segment.proofs.parse_vlq_segment.Tie as tie
 
 abbrev Inv-loop : tie.InvT-loop
-Inv-loop s mode at nums₀ starts₀ count₀ i₀ nums starts count i = Parsing mode s at nums starts count i
+Inv-loop s mode at nums₀ count₀ i₀ nums count i = Parsing mode s at nums count i
 
 abbrev μ-loop : tie.MeasureT-loop
-μ-loop s mode at nums₀ starts₀ count₀ i₀ nums starts count i = length s - i
+μ-loop s mode at nums₀ count₀ i₀ nums count i = length s - i
 
 loop-holds : tie.Need-loop-holds Inv-loop μ-loop
 loop-holds c = start _ _ _
@@ -26,7 +26,7 @@ enum-told : tie.Need-enum-told Inv-loop μ-loop
 enum-told c = c .match .keys1
 
 returns : tie.Need-returns Inv-loop μ-loop
-returns c = ends _ _ _ _ _ _ _ (c .before .before .before .loop .inv) (ended _ _ _ (sym (c .enum-told .given .1) ∙ c .before .before .next-field .ensures))
+returns c = ends _ _ _ _ _ _ (c .before .before .before .loop .inv) (ended _ _ _ (sym (c .enum-told .given .1) ∙ c .before .before .next-field .ensures))
 
 enum-known-f : tie.Need-enum-known-f Inv-loop μ-loop
 enum-known-f c = c .match .keys2
@@ -35,7 +35,7 @@ broken-requires : tie.Need-broken-requires Inv-loop μ-loop
 broken-requires c κs = search needs
 
 returns-2 : tie.Need-returns-2 Inv-loop μ-loop
-returns-2 c = c .broken .ensures ∙ cut _ _ _ _ _ _ _ (c .before .before .before .before .before .loop .inv) _ (was-cut _ _ _ _ (sym (c .before .before .f .given .1) ∙ c .before .before .before .before .next-field .ensures))
+returns-2 c = c .broken .ensures ∙ cut _ _ _ _ _ _ (c .before .before .before .before .before .loop .inv) _ (was-cut _ _ _ _ (sym (c .before .before .f .given .1) ∙ c .before .before .before .before .next-field .ensures))
 
 enum-known-f-2 : tie.Need-enum-known-f-2 Inv-loop μ-loop
 enum-known-f-2 c = c .match .keys3
@@ -44,7 +44,7 @@ broken-requires-2 : tie.Need-broken-requires-2 Inv-loop μ-loop
 broken-requires-2 c κs = search needs
 
 returns-3 : tie.Need-returns-3 Inv-loop μ-loop
-returns-3 c = c .broken2 .ensures ∙ long _ _ _ _ _ _ _ (c .before .before .before .before .before .loop .inv) _ (was-long _ _ _ _ (sym (c .before .before .f2 .given .1) ∙ c .before .before .before .before .next-field .ensures))
+returns-3 c = c .broken2 .ensures ∙ long _ _ _ _ _ _ (c .before .before .before .before .before .loop .inv) _ (was-long _ _ _ _ (sym (c .before .before .f2 .given .1) ∙ c .before .before .before .before .next-field .ensures))
 
 enum-known-f-3 : tie.Need-enum-known-f-3 Inv-loop μ-loop
 enum-known-f-3 c = c .match .keys4
@@ -55,25 +55,19 @@ mul-nums c = search needs
 array-set-from-nums : tie.Need-array-set-from-nums Inv-loop μ-loop
 array-set-from-nums c = search needs
 
-mul-starts : tie.Need-mul-starts Inv-loop μ-loop
-mul-starts c = search needs
-
-array-write-starts : tie.Need-array-write-starts Inv-loop μ-loop
-array-write-starts c = search needs
-
 add-count : tie.Need-add-count Inv-loop μ-loop
-add-count c = let w = found _ _ _ _ _ (sym (c .before .before .f3 .given .1) ∙ c .before .before .before .before .next-field .ensures) in omega (arith, count-fits _ _ _ _ _ _ _ (c .before .before .before .before .before .loop .inv) _ _ _ (w .is), c .before .before .before .before .before .before .before .good)
+add-count c = let w = found _ _ _ _ _ (sym (c .before .before .f3 .given .1) ∙ c .before .before .before .before .next-field .ensures) in omega (arith, count-fits _ _ _ _ _ _ (c .before .before .before .before .before .loop .inv) _ _ _ (w .is), c .before .before .before .before .before .before .before .good)
 
 loop-less : tie.Need-loop-less Inv-loop μ-loop
-loop-less c = let w = found _ _ _ _ _ (sym (c .before .before .f3 .given .1) ∙ c .before .before .before .before .next-field .ensures) in ⊎-elim (λ v. rw (v .3) (less _ _ _ _ _ _ _ (c .before .before .before .before .before .loop .inv) _ _ _ (w .is))) (λ v. rw (v .3) (less _ _ _ _ _ _ _ (c .before .before .before .before .before .loop .inv) _ _ _ (w .is))) (c .if1 .came)
+loop-less c = let w = found _ _ _ _ _ (sym (c .before .before .f3 .given .1) ∙ c .before .before .before .before .next-field .ensures) in ⊎-elim (λ v. rw (v .2) (less _ _ _ _ _ _ (c .before .before .before .before .before .loop .inv) _ _ _ (w .is))) (λ v. rw (v .2) (less _ _ _ _ _ _ (c .before .before .before .before .before .loop .inv) _ _ _ (w .is))) (c .if1 .came)
 
 loop-again : tie.Need-loop-again Inv-loop μ-loop
 loop-again c =
     let w = found _ _ _ _ _ (sym (c .before .before .f3 .given .1) ∙ c .before .before .before .before .next-field .ensures) in
-    let f = fits _ _ _ _ _ _ _ (c .before .before .before .before .before .loop .inv) _ _ _ (w .is) in
+    let f = fits _ _ _ _ _ _ (c .before .before .before .before .before .loop .inv) _ _ _ (w .is) in
     ⊎-elim
-    (λ v. rw (v .1, v .2, v .3) (stores _ _ _ _ _ _ _ (c .before .before .before .before .before .loop .inv) _ _ _ (w .is) _ (kept-is w f) (v .0 .taken)))
-    (λ v. rw (v .1, v .2, v .3) (counts _ _ _ _ _ _ _ (c .before .before .before .before .before .loop .inv) _ _ _ (w .is) (v .0 .left)))
+    (λ v. rw (v .1, v .2) (stores _ _ _ _ _ _ (c .before .before .before .before .before .loop .inv) _ _ _ (w .is) _ (kept-is w f) (v .0 .taken)))
+    (λ v. rw (v .1, v .2) (counts _ _ _ _ _ _ (c .before .before .before .before .before .loop .inv) _ _ _ (w .is) (v .0 .left)))
     (c .if1 .came)
 
 pub parse-vlq-segment-spec : {M : Type 1} → statement M
@@ -95,8 +89,6 @@ parse-vlq-segment-spec =
     enum-known-f-3
     mul-nums
     array-set-from-nums
-    mul-starts
-    array-write-starts
     add-count
     loop-less
     loop-again)

@@ -11,7 +11,7 @@ enum-told : tie.Need-enum-told
 enum-told c = c .match .keys1
 
 apply-segment-requires : tie.Need-apply-segment-requires
-apply-segment-requires c κs = small (c .before .before .before .before .before .args .mode) (c .before .before .before .before .before .args .sources) (c .before .before .before .before .before .args .names) (c .before .before .before .before .before .args .s .now) (c .before .before .before .before .before .args .st) _ (c .before .before .before .parse-vlq-segment .ensures)
+apply-segment-requires c κs = small (c .before .before .before .before .args .mode) (c .before .before .before .before .args .sources) (c .before .before .before .before .args .names) (c .before .before .before .before .args .s .now) (c .before .before .before .before .args .st) _ (c .before .before .parse-vlq-segment .ensures)
 
 step-of-requires : tie.Need-step-of-requires
 step-of-requires c κs = search needs
@@ -29,13 +29,13 @@ offset-of-requires-2 : tie.Need-offset-of-requires-2
 offset-of-requires-2 c κs = search needs
 
 returns : tie.Need-returns
-returns c = general-whole (c .before .before .before .before .before .before .before .args .mode) (c .before .before .before .before .before .before .before .args .sources) (c .before .before .before .before .before .before .before .args .names) (c .before .before .before .before .before .before .before .args .s .now) (c .before .before .before .before .before .before .before .args .st) _ (c .before .before .before .before .before .parse-vlq-segment .ensures) (c .before .before .enum-told .given .1) _ (c .before .apply-segment .ensures) _ (c .step-of .ensures)
+returns c = general-whole (c .before .before .before .before .before .before .args .mode) (c .before .before .before .before .before .before .args .sources) (c .before .before .before .before .before .before .args .names) (c .before .before .before .before .before .before .args .s .now) (c .before .before .before .before .before .before .args .st) _ (c .before .before .before .before .parse-vlq-segment .ensures) (c .before .before .enum-told .given .1) _ (c .before .apply-segment .ensures) _ (c .step-of .ensures)
 
 returns-2 : tie.Need-returns-2
-returns-2 c = general-leftover (c .before .before .before .before .before .before .before .args .mode) (c .before .before .before .before .before .before .before .args .sources) (c .before .before .before .before .before .before .before .args .names) (c .before .before .before .before .before .before .before .args .s .now) (c .before .before .before .before .before .before .before .args .st) _ (c .before .before .before .before .before .parse-vlq-segment .ensures) _ (c .before .before .end .given .1) _ (c .offset-of .ensures)
+returns-2 c = general-leftover (c .before .before .before .before .before .before .args .mode) (c .before .before .before .before .before .before .args .sources) (c .before .before .before .before .before .before .args .names) (c .before .before .before .before .before .before .args .s .now) (c .before .before .before .before .before .before .args .st) _ (c .before .before .before .before .parse-vlq-segment .ensures) _ (c .before .before .end .given .1) _ (c .offset-of .ensures)
 
 returns-3 : tie.Need-returns-3
-returns-3 c = general-overflow (c .before .before .before .before .before .before .before .args .mode) (c .before .before .before .before .before .before .before .args .sources) (c .before .before .before .before .before .before .before .args .names) (c .before .before .before .before .before .before .before .args .s .now) (c .before .before .before .before .before .before .before .args .st) _ (c .before .before .before .before .before .parse-vlq-segment .ensures) _ (c .before .before .end2 .given .1) _ (c .offset-of2 .ensures)
+returns-3 c = general-overflow (c .before .before .before .before .before .before .args .mode) (c .before .before .before .before .before .before .args .sources) (c .before .before .before .before .before .before .args .names) (c .before .before .before .before .before .before .args .s .now) (c .before .before .before .before .before .before .args .st) _ (c .before .before .before .before .parse-vlq-segment .ensures) _ (c .before .before .end2 .given .1) _ (c .offset-of2 .ensures)
 
 pub general-step-spec : {M : Type 1} → statement M
 general-step-spec =

@@ -3,7 +3,7 @@
 use std::borrow::Cow;
 
 use crate::cases::{Case, Class, EDGES, Random, Tally, met_code};
-use crate::model::{self, DIGITS, Decoded, Mode, NONE, Token, TokenChunk, answer, is_delimiter, table_of};
+use crate::model::{self, Answer, DIGITS, Decoded, Mode, NONE, Token, TokenChunk, answer, is_delimiter, table_of};
 use crate::ours::{self, Entry, Lent};
 use crate::theirs::{BUILDS, RELEASE};
 
@@ -28,8 +28,13 @@ pub fn utf8(text: &[u8]) -> Cow<'_, str> {
     }
 }
 
+/// Where the segment that begins at a place ends.
+pub fn segment_end(bytes: &[u8], start: usize) -> usize {
+    (start..bytes.len()).find(|&i| is_delimiter(bytes[i])).unwrap_or(bytes.len())
+}
+
 impl Text {
-    /// The model's lenient answer against the crate's, the offset by running the crate on the text cut there.
+    /// The model's lenient answer against the crate's, the refused segment and the offset by running the crate on parts of the text.
     fn crate_agrees(&self, m: &Decoded) -> Result<(), String> {
         let text = utf8(&self.text);
         for build in BUILDS {
@@ -48,20 +53,52 @@ impl Text {
         Ok(())
     }
 
-    /// The refused segment begins at the offset: the crate takes the text before it, and refuses the text to its end.
+    /// The crate takes the text before the refused segment, and refuses the text to its end; and the fault lies at the offset.
     fn cut(&self, text: &str, m: &Decoded) -> Result<(), String> {
         let bytes = text.as_bytes();
-        let begins = !is_delimiter(bytes[m.offset]) && (m.offset == 0 || is_delimiter(bytes[m.offset - 1]));
-        let end = (m.offset..bytes.len()).find(|&i| is_delimiter(bytes[i])).unwrap_or(bytes.len());
-        let before = (RELEASE.decode)(&text[..m.offset], self.sources, self.names);
-        let whole = (RELEASE.decode)(&text[..end], self.sources, self.names);
+        let begins = !is_delimiter(bytes[m.start]) && (m.start == 0 || is_delimiter(bytes[m.start - 1]));
+        let before = (RELEASE.decode)(&text[..m.start], self.sources, self.names);
+        let whole = (RELEASE.decode)(&text[..segment_end(bytes, m.start)], self.sources, self.names);
         if !begins || before != Some(Ok(m.tokens.clone())) || whole != Some(Err(m.answer)) {
             return Err(format!(
                 "cut at {}: before it {before:?}, to the segment's end {whole:?}; the model says {m:?}",
-                m.offset
+                m.start
             ));
         }
+        let place = self.place(m.start, m.answer);
+        if place != m.offset {
+            return Err(format!("by the crate the fault lies at {place}; the model says {m:?}"));
+        }
         Ok(())
+    }
+
+    /// Where the fault of the refused segment that begins at `start` lies. The crate says no place, but its answers on the text cut
+    /// within the segment, or with a field of it changed, tell the place.
+    pub fn place(&self, start: usize, refused: Answer) -> usize {
+        // Bytes of 128 or more read as 63, as `!` does; so the text can be cut anywhere.
+        let text: String = self.text.iter().map(|&b| if b < 128 { b as char } else { '!' }).collect();
+        let again = |text: &str| (RELEASE.decode)(text, self.sources, self.names) == Some(Err(refused));
+        let end = segment_end(text.as_bytes(), start);
+        let ends: Vec<usize> = (start..end).filter(|&i| model::digit_of(text.as_bytes()[i]) < 32).map(|i| i + 1).collect();
+        let field = |i: usize| if i == 0 { start } else { ends[i - 1] };
+        match refused.code {
+            model::VLQ_LEFTOVER => end,
+            // The shortest beginning that has the digit too many.
+            model::VLQ_OVERFLOW => (start..end).find(|&i| again(&text[..=i])).expect("a digit too many"),
+            model::BAD_SOURCE_REFERENCE => field(1),
+            model::BAD_NAME_REFERENCE => field(4),
+            model::BAD_SEGMENT_SIZE if refused.number == 0 => {
+                // The column alone; or the source line, if it is still refused with the source column as it was.
+                if again(&text[..ends[0]]) {
+                    start
+                } else if again(&format!("{}A{}", &text[..field(3)], &text[ends[3]..end])) {
+                    field(2)
+                } else {
+                    field(3)
+                }
+            }
+            _ => start,
+        }
     }
 
     /// A table of the size that the library counts is never full, by the crate's tokens too; where each segment gives a token, a
@@ -126,8 +163,8 @@ impl Case for Text {
                 if full.answer.code == model::TABLE_FULL && entry != Entry::Checked {
                     // The crate takes the text cut where the table was full, and has just those tokens there.
                     let text = utf8(&self.text);
-                    let before = (RELEASE.decode)(&text[..full.offset], self.sources, self.names);
-                    if before != Some(Ok(full.tokens.clone())) {
+                    let before = (RELEASE.decode)(&text[..full.start], self.sources, self.names);
+                    if before != Some(Ok(full.tokens.clone())) || full.offset != full.start {
                         return Err(format!(
                             "full at {}: the crate has {before:?} before it, the model {:?}",
                             full.offset, full.tokens
@@ -448,24 +485,33 @@ pub fn worked() -> Vec<(Text, Decoded, Decoded)> {
         answer: answer(0, 0),
         tokens: tokens.iter().map(|t| Token::of(t)).collect(),
         offset: n,
+        start: n,
     };
-    let refused = |code, number| Decoded { answer: answer(code, number), tokens: vec![], offset: 0 };
+    let behind = |tokens: &[[u32; 6]], code, number, start, offset| Decoded { answer: answer(code, number), start, ..done(tokens, offset) };
+    let refused = |code, number, offset| behind(&[], code, number, 0, offset);
     let both = |t: &[u8], s, n, d: Decoded| (Text::new(t, s, n), d.clone(), d);
+    let one = [0, 0, 0, 0, NONE, NONE];
     vec![
         both(b"", 0, 0, done(&[], 0)),
-        both(b"A", 0, 0, done(&[[0, 0, 0, 0, NONE, NONE]], 1)),
-        both(b"AAAA", 0, 0, refused(4, 0)),
-        both(b"ACAA", 1, 0, refused(4, 0)),
-        (Text::new(b"AAAAD", 1, 1), refused(5, 4294967295), refused(6, 4)),
-        both(b"DAA", 1, 0, refused(3, 0)),
-        both(b"AAA", 1, 0, refused(3, 3)),
-        both(b"AAAAAA", 1, 1, refused(3, 6)),
+        both(b"A", 0, 0, done(&[one], 1)),
+        both(b"AAAA", 0, 0, refused(4, 0, 1)),
+        both(b"ACAA", 1, 0, refused(4, 0, 1)),
+        (Text::new(b"AAAAD", 1, 1), refused(5, 4294967295, 4), refused(6, 4, 4)),
+        both(b"DAA", 1, 0, refused(3, 0, 0)),
+        both(b"AADA", 1, 0, refused(3, 0, 2)),
+        both(b"AAAD", 1, 0, refused(3, 0, 3)),
+        both(b"gAADA", 1, 0, refused(3, 0, 3)),
+        both(b"AAA", 1, 0, refused(3, 3, 0)),
+        both(b"AAAAAA", 1, 1, refused(3, 6, 0)),
         both(b"+/////H", 0, 0, done(&[[0, 4294967295, 0, 0, NONE, NONE]], 7)),
-        (Text::new(b"ggggggI", 0, 0), done(&[[0, 0, 0, 0, NONE, NONE]], 7), refused(6, 0)),
-        both(b"ggggggggggggA", 0, 0, done(&[[0, 0, 0, 0, NONE, NONE]], 13)),
-        both(b"gggggggggggggA", 0, 0, refused(2, 0)),
-        both(b"!", 0, 0, refused(1, 0)),
-        both(b"!A", 0, 0, refused(3, 0)),
+        (Text::new(b"ggggggI", 0, 0), done(&[one], 7), refused(6, 0, 0)),
+        (Text::new(b"AAggggggIA", 1, 0), done(&[[0, 0, 0, 0, 0, NONE]], 10), refused(6, 2, 2)),
+        both(b"ggggggggggggA", 0, 0, done(&[one], 13)),
+        both(b"gggggggggggggA", 0, 0, refused(2, 0, 13)),
+        both(b"ggggggggggggg,", 0, 0, refused(1, 0, 13)),
+        both(b"!", 0, 0, refused(1, 0, 1)),
+        both(b"A,!", 0, 0, behind(&[one], 1, 0, 2, 3)),
+        both(b"!A", 0, 0, refused(3, 0, 0)),
         both(b"AAEG;C", 1, 0, done(&[[0, 0, 2, 3, 0, NONE], [1, 1, 2, 3, NONE, NONE]], 6)),
     ]
 }

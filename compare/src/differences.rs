@@ -25,7 +25,9 @@ fn decoding(build: &Build) -> Result<(), String> {
         same("no place", ours_decode(Entry::Plain, b"A", 0, 0, numbers), (answer(model::TABLE_FULL, 0), 0, 0))?;
     }
     same("no place, the crate", (build.decode)("A", 0, 0), Some(Ok(vec![at(0, 0)])))?;
-    same("0x80", ours_decode(Entry::Plain, &[0x80], 0, 0, 6), (answer(model::VLQ_LEFTOVER, 0), 0, 0))?;
+    same("0x80", ours_decode(Entry::Plain, &[0x80], 0, 0, 6), (answer(model::VLQ_LEFTOVER, 0), 0, 1))?;
+    same("the place", ours_decode(Entry::Plain, b"AADA", 1, 0, 6), (answer(model::BAD_SEGMENT_SIZE, 0), 0, 2))?;
+    same("the place, the crate", (build.decode)("AADA", 1, 0), Some(Err(answer(model::BAD_SEGMENT_SIZE, 0))))?;
     let wide = "ggggggI";
     same("wide", ours_decode(Entry::Checked, wide.as_bytes(), 0, 0, 6).0, answer(model::WIDE_VALUE, 0))?;
     same("wide, the crate", (build.decode)(wide, 0, 0), Some(Ok(vec![at(0, 0)])))?;

@@ -82,17 +82,17 @@ pub fn digit_of(byte: u8) -> u8 {
     }
 }
 
-/// The value at a place that has no delimiter, and where it ends.
-fn value_at(text: &[u8], from: usize) -> Result<(i128, usize), u64> {
+/// The value at a place that has no delimiter, and where it ends; or the code, and where it broke.
+fn value_at(text: &[u8], from: usize) -> Result<(i128, usize), (u64, usize)> {
     let mut sum: u128 = 0;
     let mut at = from;
     let mut k = 0;
     loop {
         if at == text.len() || is_delimiter(text[at]) {
-            return Err(VLQ_LEFTOVER);
+            return Err((VLQ_LEFTOVER, at));
         }
         if k == 13 {
-            return Err(VLQ_OVERFLOW);
+            return Err((VLQ_OVERFLOW, at));
         }
         let digit = digit_of(text[at]);
         sum += u128::from(digit % 32) << (5 * k);
@@ -122,18 +122,24 @@ pub enum Mode {
 pub struct Decoded {
     pub answer: Answer,
     pub tokens: Vec<Token>,
+    /// Where the fault lies; the text's length when done.
     pub offset: usize,
+    /// Where the refused segment begins; the text's length when done.
+    pub start: usize,
 }
 
 const WORD: i128 = 1 << 32;
 
+/// A refusal, and the field that it is about: none for the segment as a whole.
+type Refused = (Answer, Option<usize>);
+
 /// A sum of step 1 or 4: field is its number in WideValue.
-fn kept(mode: Mode, field: u64, sum: i128) -> Result<u32, Answer> {
+fn kept(mode: Mode, field: usize, sum: i128) -> Result<u32, Refused> {
     if sum < 0 {
-        return Err(answer(BAD_SEGMENT_SIZE, 0));
+        return Err((answer(BAD_SEGMENT_SIZE, 0), Some(field)));
     }
     if mode == Mode::Checked && sum >= WORD {
-        return Err(answer(WIDE_VALUE, field));
+        return Err((answer(WIDE_VALUE, field as u64), Some(field)));
     }
     Ok(sum.rem_euclid(WORD) as u32)
 }
@@ -149,11 +155,11 @@ struct Running {
 }
 
 /// Steps 1 to 5.
-fn segment(mode: Mode, sources: u32, names: u32, run: &mut Running, values: &[i128]) -> Result<Token, Answer> {
+fn segment(mode: Mode, sources: u32, names: u32, run: &mut Running, values: &[i128]) -> Result<Token, Refused> {
     run.dst_col = kept(mode, 0, i128::from(run.dst_col) + values[0])?;
     match values.len() {
         1 | 4 | 5 => {}
-        count => return Err(answer(BAD_SEGMENT_SIZE, count as u64 % (1 << 32))),
+        count => return Err((answer(BAD_SEGMENT_SIZE, count as u64 % (1 << 32)), None)),
     }
     let mut token = Token {
         dst_line: run.dst_line,
@@ -168,7 +174,7 @@ fn segment(mode: Mode, sources: u32, names: u32, run: &mut Running, values: &[i1
     }
     let source = i128::from(run.source_id) + values[1];
     if source < 0 || source >= i128::from(sources) {
-        return Err(answer(BAD_SOURCE_REFERENCE, u64::from(run.source_id)));
+        return Err((answer(BAD_SOURCE_REFERENCE, u64::from(run.source_id)), Some(1)));
     }
     run.source_id = source as u32;
     run.src_line = kept(mode, 2, i128::from(run.src_line) + values[2])?;
@@ -179,11 +185,11 @@ fn segment(mode: Mode, sources: u32, names: u32, run: &mut Running, values: &[i1
     if values.len() == 5 {
         let name = i128::from(run.name_id) + values[4];
         if mode == Mode::Checked && !(0..WORD).contains(&name) {
-            return Err(answer(WIDE_VALUE, 4));
+            return Err((answer(WIDE_VALUE, 4), Some(4)));
         }
         run.name_id = name.rem_euclid(WORD) as u32;
         if run.name_id >= names {
-            return Err(answer(BAD_NAME_REFERENCE, u64::from(run.name_id)));
+            return Err((answer(BAD_NAME_REFERENCE, u64::from(run.name_id)), Some(4)));
         }
         token.name_id = run.name_id;
     }
@@ -206,24 +212,26 @@ pub fn decode(mode: Mode, text: &[u8], sources: u32, names: u32, places: usize) 
             continue;
         }
         let start = at;
-        let refused = |answer, tokens| Decoded { answer, tokens, offset: start };
+        let refused = |answer, tokens, offset| Decoded { answer, tokens, offset, start };
         let mut values = Vec::new();
+        let mut places_of_fields = Vec::new();
         while at < text.len() && !is_delimiter(text[at]) {
             match value_at(text, at) {
                 Ok((value, end)) => {
                     values.push(value);
+                    places_of_fields.push(at);
                     at = end;
                 }
-                Err(code) => return refused(answer(code, 0), tokens),
+                Err((code, place)) => return refused(answer(code, 0), tokens, place),
             }
         }
         match segment(mode, sources, names, &mut run, &values) {
-            Err(a) => return refused(a, tokens),
-            Ok(_) if tokens.len() >= places => return refused(answer(TABLE_FULL, 0), tokens),
+            Err((a, field)) => return refused(a, tokens, field.map_or(start, |field| places_of_fields[field])),
+            Ok(_) if tokens.len() >= places => return refused(answer(TABLE_FULL, 0), tokens, start),
             Ok(token) => tokens.push(token),
         }
     }
-    Decoded { answer: answer(DONE, 0), tokens, offset: text.len() }
+    Decoded { answer: answer(DONE, 0), tokens, offset: text.len(), start: text.len() }
 }
 
 /// The numbers of a table with a place for each run of bytes that are no delimiter.

@@ -79,26 +79,27 @@ struct Decoded {
     code: u64,
     number: u64,
     offset: usize,
+    start: usize,
     tokens: Vec<Token>,
 }
 
-/// The crate's answer; where it refuses, the offset is that of the first segment whose end it does not pass.
+/// The crate's answer; where it refuses, the segment is the first whose end it does not pass, and the offset is told by its answers on
+/// parts of the text.
 fn decoded(case: &Text) -> Option<Decoded> {
     let text = std::str::from_utf8(&case.text).ok()?;
     let run = |build: usize, text: &str| (BUILDS[build].decode)(text, case.sources, case.names).expect("decoding panicked");
     let answer = run(0, text);
     assert!(answer == run(1, text), "the builds differ on {}", case.show());
     let refused = match answer {
-        Ok(tokens) => return Some(Decoded { code: 0, number: 0, offset: text.len(), tokens }),
+        Ok(tokens) => return Some(Decoded { code: 0, number: 0, offset: text.len(), start: text.len(), tokens }),
         Err(a) => a,
     };
     let bytes = text.as_bytes();
     let starts = (0..bytes.len()).filter(|&i| !is_delimiter(bytes[i]) && (i == 0 || is_delimiter(bytes[i - 1])));
     for start in starts {
-        let end = (start..bytes.len()).find(|&i| is_delimiter(bytes[i])).unwrap_or(bytes.len());
-        if run(1, &text[..end]).is_err() {
+        if run(1, &text[..decoding::segment_end(bytes, start)]).is_err() {
             let tokens = run(1, &text[..start]).expect("the text before the refused segment");
-            return Some(Decoded { code: refused.code, number: refused.number, offset: start, tokens });
+            return Some(Decoded { code: refused.code, number: refused.number, offset: case.place(start, refused), start, tokens });
         }
     }
     unreachable!("no segment is refused in {}", case.show())
@@ -114,7 +115,7 @@ fn put_text(file: &mut File, case: &Text) {
 
 /// What tells two short texts apart: the answer, how many tokens, how long, and the kinds of the refused segment's bytes.
 fn kind_of(case: &Text, d: &Decoded) -> (u64, u64, usize, usize, Vec<u8>) {
-    let segment = case.text[d.offset..].iter().take_while(|&&b| !is_delimiter(b));
+    let segment = case.text[d.start..].iter().take_while(|&&b| !is_delimiter(b));
     let kinds = segment.map(|&b| match b {
         b'A'..=b'f' => 0,
         b'g'..=b'z' | b'0'..=b'9' | b'+' | b'/' => 1,

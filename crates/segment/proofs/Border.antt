@@ -44,7 +44,7 @@ not-end at (long k) e = let z : _≡_ {A = ℕ} 0 1 = cc in absurd (omega arith)
 not-end at (num n len) e = let z : _≡_ {A = ℕ} 0 1 = cc in absurd (omega arith)
 
 -- nothing stands there only before a delimiter
-end-delim : (at b : ℕ) (bs : List ℕ) → vlqOf at (b ∷ bs) ≡ End → isDelim b ≡ true
+pub end-delim : (at b : ℕ) (bs : List ℕ) → vlqOf at (b ∷ bs) ≡ End → isDelim b ≡ true
 unfolding vlqOf
 end-delim at b bs e = by (isDelim b) refl e
   where

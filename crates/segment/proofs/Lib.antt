@@ -5,3 +5,4 @@ pub mod OneDigit
 pub mod Places
 pub mod Range
 pub mod Reach
+pub mod Within

@@ -97,7 +97,7 @@ none-there i fs q h = absurd (omega (arith, ap length q))
 
 -- fields whose first is a value that ends at next′: the others stand behind it
 module _ (mode : Mode) (at b : ℕ) (bs : List ℕ) (next′ : ℕ) (r : Read at (b ∷ bs) next′) where
-  behind : fieldsFrom mode (next′ - (at + 1)) (at + 1) bs ≡ fieldsFrom mode 0 next′ (drop (r .len) (b ∷ bs))
+  pub behind : fieldsFrom mode (next′ - (at + 1)) (at + 1) bs ≡ fieldsFrom mode 0 next′ (drop (r .len) (b ∷ bs))
   behind =
       let z = tail-size (b ∷ bs) 13 (r .n) (r .len) (r .is) in
       let e : r .len ≡ suc (next′ - (at + 1)) = omega (arith, z .0, r .next-is) in

@@ -1,4 +1,5 @@
+pub mod Ends
+pub mod Faults
 pub mod Laws
 pub mod Short
 pub mod Sums
-pub mod Ends

@@ -52,11 +52,7 @@ fn general_step(s: &[u8], mode: Mode, sources: u32, names: u32, st: State) -> St
     let g = segment::parse_vlq_segment(s, mode, st.at);
     let end = g.end;
     match end {
-        Ending::Whole => step_of(
-            s,
-            st.at,
-            apply::apply_segment(mode, sources, names, st, g),
-        ),
+        Ending::Whole => step_of(s, st.at, apply::apply_segment(mode, sources, names, st, g)),
         Ending::Leftover(place) => Step::Refuse(
             Code::VlqLeftover,
             offset_of(s, st.at, About::Place(place)),

@@ -1,0 +1,195 @@
+-- Where a refused decode says that the fault is, and that the tokens before it are kept. Assumes nothing.
+use mathlib.Core.Path.{_≡_, refl, sym, _∙_, ap, subst}
+use mathlib.Core.Bool.{Bool, true, false}
+use mathlib.Core.List.{List, [], _∷_}
+use Prim.Native.Nat.{ℕ, zero, suc, _+_, _-_, _<_, _≤_}
+use native.Mathlib.Omega.{arith}
+use native.Mathlib.Nat.{zero-add}
+use lib.Dec.{T}
+use lib.ListN.{length, take, drop, getD, length-drop}
+use lib.Seq.{drop-drop, drop-cons, getD-drop, length-take-le}
+use Rattle.code.specs.declared.Code.{Code}
+use Rattle.digits.specs.Digits.{isDelim}
+use Rattle.token.specs.Table.{places, over}
+use Rattle.token.specs.declared.Token.{Token}
+use Rattle.value.specs.declared.Mode.{Mode}
+use Rattle.segment.proofs.Within.{Clear}
+use Rattle.apply.specs.declared.State.{State}
+use Rattle.step.specs.declared.Step.{Step}
+use Rattle.step.specs.Step.{start, stepFrom, stepAt}
+use Rattle.step.specs.Ways.{Closes}
+use Rattle.step.proofs.Ends.{closes}
+use Rattle.step.proofs.Faults as step
+use Rattle.step.proofs.Faults.{Delims, Lying, lying, nothing-before, put-take}
+use Rattle.decode.specs.declared.Decoded.{Decoded}
+use Rattle.decode.specs.Mapping.{Out, stopped, tokenThen, full, placed, run, decoded, answer, Decodes}
+use Rattle.decode.specs.Where.{Begins, Fault, Located}
+
+yes-no : {A : Type 0} → true ≡ false → A
+yes-no e = absurd (subst T e tt)
+
+-- ---- of the bytes at a place, one by one
+clear-one : (k : ℕ) (l : List ℕ) → Clear k l → (i : ℕ) → i < k → isDelim (getD l i 0) ≡ false
+clear-one zero l h i q = absurd (omega arith)
+clear-one (suc k) [] h i q = absurd h
+clear-one (suc k) (b ∷ bs) h zero q = h .0
+clear-one (suc k) (b ∷ bs) h (suc i) q = clear-one k bs (h .1) i (omega arith)
+
+clear-long : (k : ℕ) (l : List ℕ) → Clear k l → k ≤ length l
+clear-long zero l h = omega arith
+clear-long (suc k) [] h = absurd h
+clear-long (suc k) (b ∷ bs) h = omega (arith, clear-long k bs (h .1))
+
+delim-one : (k : ℕ) (l : List ℕ) → Delims k l → (i : ℕ) → i < k → isDelim (getD l i 0) ≡ true
+delim-one zero l h i q = absurd (omega arith)
+delim-one (suc k) [] h i q = absurd h
+delim-one (suc k) (b ∷ bs) h zero q = h .0
+delim-one (suc k) (b ∷ bs) h (suc i) q = delim-one k bs (h .1) i (omega arith)
+
+-- the beginning of a part is a part of the beginning
+take-nothing : (k : ℕ) → [] ≡ take {A = ℕ} k []
+take-nothing zero = refl
+take-nothing (suc k) = refl
+
+drop-take : (at n : ℕ) (l : List ℕ) → drop at (take n l) ≡ take (n - at) (drop at l)
+drop-take zero n l = let e : n - 0 ≡ n = omega arith in rw e
+drop-take (suc at) zero [] = take-nothing (0 - suc at)
+drop-take (suc at) (suc n) [] = take-nothing (suc n - suc at)
+drop-take (suc at) zero (b ∷ bs) = let e : 0 - suc at ≡ 0 = omega arith in rw e
+drop-take (suc at) (suc n) (b ∷ bs) = let e : suc n - suc at ≡ n - at = omega arith in rw e (drop-take at n bs)
+
+module _ (mode : Mode) (sources names : ℕ) (text : List ℕ) where
+  -- a state that a decode passes: it is at the start, or a segment ends there
+  abbrev Passed : State → Type 0
+  Passed s = 0 < s .at → Closes text s
+
+  -- ---- a fault of the bytes at the state's place, in the whole text
+  module _ (s : State) (p : Passed s) (begin offset : ℕ) (f : step.Fault (s .at) (drop (s .at) text) begin offset) where
+    there : drop (f .skip) (drop (s .at) text) ≡ drop begin text
+    there = drop-drop (f .skip) (s .at) text ∙ ap (λ (n : ℕ). drop n text) (sym (f .begin-is))
+
+    begins-here : (begin < length text) × (isDelim (getD text begin 0) ≡ false)
+    begins-here =
+        let c : Clear 1 (drop begin text) = rw there at (f .opens) in
+        let e : getD (drop begin text) 0 0 ≡ getD text begin 0 = getD-drop begin text 0 0 ∙ ap (λ (n : ℕ). getD text n 0) (omega arith) in
+        (omega (arith, clear-long 1 (drop begin text) c, length-drop begin text), rw e at (clear-one 1 (drop begin text) c 0 (omega arith)))
+
+    delim-before : (k : ℕ) → begin ≡ k + 1 → isDelim (getD text k 0) ≡ true
+    delim-before k e = by (f .skip) (f .delims) (f .begin-is)
+      where
+        by : (j : ℕ) → Delims j (drop (s .at) text) → begin ≡ s .at + j → isDelim (getD text k 0) ≡ true
+        by zero d q =
+            let n : begin ≡ s .at = omega (arith, q) in
+            yes-no (sym (rw n (p (omega (arith, e, n)) (omega (arith, n, begins-here .0)))) ∙ begins-here .1)
+        by (suc j) d q =
+            let n : s .at + j ≡ k = omega (arith, q, e) in
+            let g : getD (drop (s .at) text) j 0 ≡ getD text k 0 = getD-drop (s .at) text j 0 ∙ ap (λ (m : ℕ). getD text m 0) n in
+            rw (← g) (delim-one (suc j) (drop (s .at) text) d j (omega arith))
+
+    segment : Begins text begin
+    segment = record { within = begins-here .0; opens = begins-here .1; behind = delim-before }
+
+    past : s .at ≤ begin
+    past = omega (arith, f .begin-is)
+
+    clear-here : Clear (offset - begin) (drop begin text)
+    clear-here = rw there at (f .clear)
+
+    to : offset ≤ length text
+    to = omega (arith, clear-long (offset - begin) (drop begin text) clear-here, length-drop begin text, f .from, begins-here .0)
+
+    inside : (k : ℕ) → begin ≤ k → k < offset → isDelim (getD text k 0) ≡ false
+    inside k l h =
+        let g : getD (drop begin text) (k - begin) 0 ≡ getD text k 0 = getD-drop begin text (k - begin) 0 ∙ ap (λ (m : ℕ). getD text m 0) (omega arith) in
+        rw (← g) (clear-one (offset - begin) (drop begin text) clear-here (k - begin) (omega arith))
+
+    -- before it only delimiters are left
+    nothing : stepAt mode sources names (take begin text) s ≡ Step.Done
+    nothing =
+        let n : begin - s .at ≡ f .skip = omega (arith, f .begin-is) in
+        ap (stepFrom mode sources names s) (drop-take (s .at) begin text ∙ ap (λ (k : ℕ). take k (drop (s .at) text)) n)
+        ∙ nothing-before mode sources names (f .skip) s (drop (s .at) text) (f .delims)
+
+  -- ---- the whole decode
+  pub record Found (left : ℕ) (s : State) (o : Out) : Type 0 where
+    pub begin : ℕ
+    pub segment : Begins text begin
+    pub past : s .at ≤ begin
+    pub from : begin ≤ o .offset
+    pub to : o .offset ≤ length text
+    pub inside : (k : ℕ) → begin ≤ k → k < o .offset → isDelim (getD text k 0) ≡ false
+    pub kept : run mode sources names (take begin text) left s ≡ record { tokens = o .tokens; code = Code.Done; offset = begin }
+
+  ends-there : (left begin : ℕ) (s : State) → begin < length text → stepAt mode sources names (take begin text) s ≡ Step.Done
+      → run mode sources names (take begin text) left s ≡ stopped Code.Done begin
+  unfolding run
+  ends-there zero begin s h e = rw (e, length-take-le begin text (omega arith))
+  ends-there (suc left) begin s h e = rw (e, length-take-le begin text (omega arith))
+
+  found-here : (left : ℕ) (s : State) → Passed s → (code : Code) (begin offset : ℕ) → step.Fault (s .at) (drop (s .at) text) begin offset
+      → Found left s (stopped code offset)
+  found-here left s p code begin offset f =
+      record {
+        begin = begin;
+        segment = segment s p begin offset f;
+        past = past s p begin offset f;
+        from = f .from;
+        to = to s p begin offset f;
+        inside = inside s p begin offset f;
+        kept = ends-there left begin s (segment s p begin offset f .within) (nothing s p begin offset f);
+      }
+
+  found-later : (left : ℕ) (s : State) (t : Token) (b : ℕ) (s′ : State) (o : Out) → stepAt mode sources names text s ≡ Step.Put t b s′
+      → Found left s′ o → Found (suc left) s (tokenThen t o)
+  unfolding run
+  found-later left s t b s′ o e f =
+      let w = put-take mode sources names (f .begin - s .at) s (drop (s .at) text) t b s′ e in
+      let v = w (omega (arith, f .past)) in
+      let q : stepAt mode sources names (take (f .begin) text) s ≡ Step.Put t b s′ = ap (stepFrom mode sources names s) (drop-take (s .at) (f .begin) text) ∙ v .1 in
+      record {
+        begin = f .begin;
+        segment = f .segment;
+        past = omega (arith, v .0, f .past);
+        from = f .from;
+        to = f .to;
+        inside = f .inside;
+        kept = rw (q, f .kept);
+      }
+
+  found : (left : ℕ) (s : State) → Passed s → (run mode sources names text left s .code ≡ Code.Done → ⊥) → Found left s (run mode sources names text left s)
+  unfolding run
+  found zero s p n = by (stepAt mode sources names text s) (lying mode sources names s (drop (s .at) text)) n
+    where
+      by : (r : Step) → Lying mode sources names s (drop (s .at) text) r → (full (length text) r .code ≡ Code.Done → ⊥) → Found zero s (full (length text) r)
+      by (Step.Put t begin s′) f n = found-here zero s p Code.TableFull begin begin f
+      by (Step.Refuse code offset) f n = found-here zero s p code (f .0) offset (f .1)
+      by Step.Done f n = absurd (n refl)
+  found (suc left) s p n =
+      by (stepAt mode sources names text s) refl (lying mode sources names s (drop (s .at) text)) n (found left)
+    where
+      by : (r : Step) → stepAt mode sources names text s ≡ r → Lying mode sources names s (drop (s .at) text) r
+          → (placed (length text) r (run mode sources names text left) .code ≡ Code.Done → ⊥)
+          → ((s′ : State) → Passed s′ → (run mode sources names text left s′ .code ≡ Code.Done → ⊥) → Found left s′ (run mode sources names text left s′))
+          → Found (suc left) s (placed (length text) r (run mode sources names text left))
+      by (Step.Put t begin s′) e f n ih =
+          found-later left s t begin s′ (run mode sources names text left s′) e (ih s′ (λ _. closes mode sources names text s t begin s′ (sym e)) n)
+      by (Step.Refuse code offset) e f n ih = found-here (suc left) s p code (f .0) offset (f .1)
+      by Step.Done e f n ih = absurd (n refl)
+
+pub located : Located
+located mode sources names text table r table′ d n =
+    let o : Out = decoded mode sources names text (places (length table)) in
+    let f : Found mode sources names text (places (length table)) start o =
+            found mode sources names text (places (length table)) start (λ h. absurd (omega arith)) (λ e. n (rw (d .says) e)) in
+    record {
+      begin = f .begin;
+      segment = f .segment;
+      from = rw (d .says) (f .from);
+      to = rw (d .says) (f .to);
+      inside = λ k l h. f .inside k l (rw (d .says) at h);
+      kept =
+          record {
+            says = ap (λ (x : Decoded). record { code = Code.Done; tokens = x .tokens; offset = f .begin }) (d .says) ∙ sym (ap answer (f .kept));
+            wrote = d .wrote ∙ sym (ap (λ (x : Out). over (x .tokens) table) (f .kept));
+          };
+    }

@@ -1,4 +1,4 @@
-/* Peghayrick 0.2.1: the mapping core of source maps, for C99 and later and C++11 and later.
+/* Peghayrick 0.3.0: the mapping core of source maps, for C99 and later and C++11 and later.
  *
  * Link with libpeghayrick.a (x86-64 Linux). The archive needs one symbol from outside, memset.
  *
@@ -44,8 +44,8 @@ extern "C" {
 #endif
 
 /* The version of this header: major * 1000000 + minor * 1000 + patch. pgk_version() has that of the archive. */
-#define PGK_VERSION 2001u
-#define PGK_VERSION_TEXT "0.2.1"
+#define PGK_VERSION 3000u
+#define PGK_VERSION_TEXT "0.3.0"
 
 /* As an id: none. */
 #define PGK_NONE 4294967295u
@@ -77,7 +77,14 @@ typedef struct { uint32_t start, end, prev_dst_line, prev_dst_col, prev_src_line
 
 typedef struct { uint64_t code, number; } pgk_answer;
 
-/* tokens: how many were written. offset: where the refused segment begins; the text's length when done. */
+/* tokens: how many were written. offset: the byte at fault, and the text's length when done. At fault is, by the code:
+ *   PGK_VLQ_LEFTOVER           the ',' or ';' where a digit was due, or the text's end
+ *   PGK_VLQ_OVERFLOW           the fourteenth digit
+ *   PGK_BAD_SEGMENT_SIZE       the first digit of the field (number 0), or of the segment (a wrong count)
+ *   PGK_BAD_SOURCE_REFERENCE, PGK_BAD_NAME_REFERENCE, PGK_WIDE_VALUE   the first digit of the field
+ *   PGK_TABLE_FULL             the first digit of the segment that has no place
+ * The refused segment begins behind the last ',' or ';' before the offset, or with the text where there is none;
+ * what stands before it gives the tokens that were written. */
 typedef struct { uint64_t code, number, tokens, offset; } pgk_decoded;
 
 /* bytes: how many were written. next: the state for the next chunk. A refusal: bytes 0, next as given. */

@@ -71,7 +71,7 @@ pub use refusal::{Refusal, Stop};
 pub use token::{table_of, table_of_mut, tokens_of, written, Token, TokenChunk, NONE, WIDTH};
 
 /// The version of this crate: major × 1,000,000 + minor × 1,000 + patch.
-pub const VERSION: u64 = 2001;
+pub const VERSION: u64 = 3000;
 
 /// The version of the archive that was linked. Where it is not [`VERSION`], `PEGHAYRICK_LIB_DIR` named another version's.
 ///
@@ -131,9 +131,9 @@ pub fn table_size(text: &[u8]) -> usize {
 /// assert_eq!(decode_mapping(b"AAEG;C", 1, 0, &mut table), Ok(Decoded { tokens: 2, offset: 6 }));
 /// assert_eq!(tokens_of(&table), [Token::new(0, 0, 2, 3, Some(0), None), Token::new(1, 1, 2, 3, None, None)]);
 ///
-/// // A refusal says where; the tokens before it are in the table.
+/// // A refusal says where: here a digit is due at the text's end. The tokens before the segment are in the table.
 /// let refusal = decode_mapping(b"AAEG;AAAA,!", 1, 0, &mut table).unwrap_err();
-/// assert_eq!(refusal, Refusal::VlqLeftover { at: Stop { tokens: 2, offset: 10 } });
+/// assert_eq!(refusal, Refusal::VlqLeftover { at: Stop { tokens: 2, offset: 11 } });
 /// assert_eq!(tokens_of(&table)[1], Token::new(1, 0, 2, 3, Some(0), None));
 /// ```
 ///

@@ -7,7 +7,9 @@ use core::fmt;
 pub struct Stop {
     /// How many tokens were written: those before the refused segment.
     pub tokens: usize,
-    /// The byte at which the refused segment begins.
+    /// The byte at fault: where a digit was due (VlqLeftover), the fourteenth digit (VlqOverflow), the first digit of the field
+    /// that falls below 0, refers to nothing or leaves 32 bits, or the first digit of the segment (a wrong count, TableFull).
+    /// The refused segment begins behind the last `,` or `;` before it, or with the text where there is none.
     pub offset: usize,
 }
 

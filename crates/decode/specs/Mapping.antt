@@ -12,7 +12,7 @@ use Rattle.step.specs.declared.Step.{Step}
 use Rattle.decode.specs.declared.Decoded.{Decoded}
 use Rattle.step.specs.Step.{start, stepAt}
 
--- the tokens before the refused segment, the code, and where that segment begins (the text's length when done)
+-- the tokens before the refused segment, the code, and where the fault lies (the text's length when done)
 pub record Out : Type 0 where
   pub tokens : List Token
   pub code : Code

@@ -11,7 +11,7 @@ ghost use Rattle.step.specs.Step.{start};
 ghost use Rattle.decode.specs.Mapping.{Decodes};
 ghost use Rattle.value.specs.declared.Mode.{Mode};
 
-// The code; how many tokens were written; and where the refused segment begins, or the text's length when done.
+// The code; how many tokens were written; and where the fault lies, or the text's length when done.
 pub struct Decoded {
     pub code: Code,
     pub tokens: usize,

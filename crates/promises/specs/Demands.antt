@@ -12,7 +12,9 @@ use Rattle.token.specs.declared.Token.{Token}
 use Rattle.token.specs.declared.TokenChunk.{TokenChunk}
 use Rattle.value.specs.declared.Mode.{Mode}
 use Rattle.decode.specs.Mapping.{Decodes}
+use Rattle.decode.specs.Where.{Located}
 use Rattle.decode.proofs.Unique as decode
+use Rattle.decode.proofs.Where as fault
 use Rattle.table_size.specs.Size.{NeverFull}
 use Rattle.table_size.proofs.Enough as size
 use Rattle.encode.specs.Encode.{Encodes}
@@ -45,6 +47,11 @@ pub one-decode : (mode : Mode) (sources names : ℕ) (text table : List ℕ) (r 
 one-decode mode sources names text table r s x y a b =
     let e = decode.one-decode mode sources names text table (a .inner) (b .inner) x y (a .holds) (b .holds) in
     (a .says ∙ ap decodedOut (e .0) ∙ sym (b .says), e .1)
+
+-- of every refused decode: the offset lies in the refused segment or right behind it, and what stands before that segment decodes to
+-- the tokens that are kept
+pub fault-located : Located
+fault-located = fault.located
 
 -- pgk_encode
 pub one-encode : (table : List ℕ) (c : TokenChunk) (out : List ℕ) (r s : EncodedOut) (x y : List ℕ)

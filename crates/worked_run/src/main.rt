@@ -64,13 +64,20 @@ fn main() {
     row(b"ACAA", 1, 0);
     row(b"AAAAD", 1, 1);
     row(b"DAA", 1, 0);
+    row(b"AADA", 1, 0);
+    row(b"AAAD", 1, 0);
+    row(b"gAADA", 1, 0);
     row(b"AAA", 1, 0);
     row(b"AAAAAA", 1, 1);
     row(b"+/////H", 0, 0);
     row(b"ggggggI", 0, 0);
+    row(b"AAggggggIA", 1, 0);
     row(b"ggggggggggggA", 0, 0);
     row(b"gggggggggggggA", 0, 0);
+    row(b"ggggggggggggg,", 0, 0);
     row(b"!", 0, 0);
+    row(b"A,!", 0, 0);
     row(b"!A", 0, 0);
+    row(b"A,A,AAAA", 1, 0);
     row(b"AAEG;C", 1, 0);
 }

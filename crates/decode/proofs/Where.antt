@@ -180,7 +180,7 @@ pub located : Located
 located mode sources names text table r table′ d n =
     let o : Out = decoded mode sources names text (places (length table)) in
     let f : Found mode sources names text (places (length table)) start o =
-            found mode sources names text (places (length table)) start (λ h. absurd (omega arith)) (λ e. n (rw (d .says) e)) in
+    found mode sources names text (places (length table)) start (λ h. absurd (omega arith)) (λ e. n (rw (d .says) e)) in
     record {
       begin = f .begin;
       segment = f .segment;

@@ -1,4 +1,4 @@
--- docs/RULES.md, Worked texts: the marked rows, as one table, and that the definitions give each row, in both modes. Assumes nothing.
+-- docs/RULES.md, Worked texts: the rows, as one table, and that the definitions give each row, in both modes. Assumes nothing.
 use mathlib.Core.Path.{_≡_, refl}
 use mathlib.Core.List.{List, [], _∷_}
 use Prim.Native.Nat.{ℕ}

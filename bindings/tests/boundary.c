@@ -103,29 +103,34 @@ static const uint32_t none = PGK_NONE;
 
 /* The worked texts of the format's rules, in the modes that they name. */
 static void worked(void) {
-    static const struct { const char *text; uint32_t s, n, code, number, wide_code, wide_number; uint64_t tokens; uint32_t column; } rows[] = {
-        { "", 0, 0, 0, 0, 0, 0, 0, 0 },
-        { "A", 0, 0, 0, 0, 0, 0, 1, 0 },
-        { "AAAA", 0, 0, 4, 0, 4, 0, 0, 0 },
-        { "ACAA", 1, 0, 4, 0, 4, 0, 0, 0 },
-        { "AAAAD", 1, 1, 5, 4294967295u, 6, 4, 0, 0 },
-        { "DAA", 1, 0, 3, 0, 3, 0, 0, 0 },
-        { "AAA", 1, 0, 3, 3, 3, 3, 0, 0 },
-        { "AAAAAA", 1, 1, 3, 6, 3, 6, 0, 0 },
-        { "+/////H", 0, 0, 0, 0, 0, 0, 1, 4294967295u },
-        { "ggggggI", 0, 0, 0, 0, 6, 0, 1, 0 },
-        { "ggggggggggggA", 0, 0, 0, 0, 0, 0, 1, 0 },
-        { "gggggggggggggA", 0, 0, 2, 0, 2, 0, 0, 0 },
-        { "!", 0, 0, 1, 0, 1, 0, 0, 0 },
-        { "!A", 0, 0, 3, 0, 3, 0, 0, 0 },
-        { "\x80", 0, 0, 1, 0, 1, 0, 0, 0 },
+    /* at: where the fault lies, in each mode that refuses. */
+    static const struct { const char *text; uint32_t s, n, code, number, wide_code, wide_number, at; uint64_t tokens; uint32_t column; } rows[] = {
+        { "", 0, 0, 0, 0, 0, 0, 0, 0, 0 },
+        { "A", 0, 0, 0, 0, 0, 0, 0, 1, 0 },
+        { "AAAA", 0, 0, 4, 0, 4, 0, 1, 0, 0 },
+        { "ACAA", 1, 0, 4, 0, 4, 0, 1, 0, 0 },
+        { "AAAAD", 1, 1, 5, 4294967295u, 6, 4, 4, 0, 0 },
+        { "DAA", 1, 0, 3, 0, 3, 0, 0, 0, 0 },
+        { "AADA", 1, 0, 3, 0, 3, 0, 2, 0, 0 },
+        { "AAAD", 1, 0, 3, 0, 3, 0, 3, 0, 0 },
+        { "gAADA", 1, 0, 3, 0, 3, 0, 3, 0, 0 },
+        { "AAA", 1, 0, 3, 3, 3, 3, 0, 0, 0 },
+        { "AAAAAA", 1, 1, 3, 6, 3, 6, 0, 0, 0 },
+        { "+/////H", 0, 0, 0, 0, 0, 0, 0, 1, 4294967295u },
+        { "ggggggI", 0, 0, 0, 0, 6, 0, 0, 1, 0 },
+        { "ggggggggggggA", 0, 0, 0, 0, 0, 0, 0, 1, 0 },
+        { "gggggggggggggA", 0, 0, 2, 0, 2, 0, 13, 0, 0 },
+        { "ggggggggggggg,", 0, 0, 1, 0, 1, 0, 13, 0, 0 },
+        { "!", 0, 0, 1, 0, 1, 0, 1, 0, 0 },
+        { "!A", 0, 0, 3, 0, 3, 0, 0, 0, 0 },
+        { "\x80", 0, 0, 1, 0, 1, 0, 1, 0, 0 },
     };
     for (size_t i = 0; i < sizeof rows / sizeof *rows; i++) {
         size_t len = strlen(rows[i].text);
         for (int mode = 0; mode < 3; mode++) {
             uint32_t code = mode == 2 ? rows[i].wide_code : rows[i].code, number = mode == 2 ? rows[i].wide_number : rows[i].number;
             uint32_t out[6] = { 0 };
-            pgk_decoded want = { code, number, code == 0 ? rows[i].tokens : 0, code == 0 ? len : 0 };
+            pgk_decoded want = { code, number, code == 0 ? rows[i].tokens : 0, code == 0 ? len : rows[i].at };
             int ok = decode_all(mode, rows[i].text, len, rows[i].s, rows[i].n, 13, want, out);
             if (code == 0 && rows[i].tokens == 1) ok &= out[0] == 0 && out[1] == rows[i].column && out[4] == none && out[5] == none;
             check(ok, rows[i].text);
@@ -136,11 +141,16 @@ static void worked(void) {
         check(decode_all(mode, "AAEG;C", 6, 1, 0, 12, (pgk_decoded){ 0, 0, 2, 6 }, out) && memcmp(out, two, 48) == 0, "AAEG;C");
     check(decode_all(0, "AAEG;C", 6, 1, 0, 11, (pgk_decoded){ 7, 0, 1, 5 }, out), "TableFull, eleven numbers");
     check(decode_all(0, "AAEG;AAA", 8, 1, 0, 6, (pgk_decoded){ 3, 3, 1, 5 }, out), "a full table and a bad segment: the segment's code");
+    check(decode_all(0, "AAEG;AAAJ", 9, 1, 0, 12, (pgk_decoded){ 3, 0, 1, 8 }, out), "a source column below 0, behind a token");
+    check(decode_all(2, "AAAAA;AAAAC", 11, 1, 1, 12, (pgk_decoded){ 5, 1, 1, 10 }, out), "a bad name, behind a token");
+    check(decode_all(1, "A,!", 3, 0, 0, 12, (pgk_decoded){ 1, 0, 1, 3 }, out), "a value cut short at the end, behind a token");
+    check(decode_all(2, "AA", 2, 0, 0, 12, (pgk_decoded){ 3, 2, 0, 0 }, out), "a wrong count is at the segment's start");
     check(decode_all(0, "A", 1, 0, 0, 0, (pgk_decoded){ 7, 0, 0, 0 }, NULL), "TableFull, no table");
     check(decode_all(0, ";;,", 3, 0, 0, 0, (pgk_decoded){ 0, 0, 0, 3 }, NULL), "delimiters need no table");
 }
 
-/* Texts at random: every placement answers alike, what stands before a refused segment decodes to the same tokens. */
+/* Texts at random: every placement answers alike; the refused segment begins behind the last delimiter before the offset, and what
+ * stands before it decodes to the same tokens. */
 static void texts(unsigned rounds) {
     static const char digits[] = "ABCDEFGHIJKLMNOPQRSTUVWXYZabcdefghijklmnopqrstuvwxyz0123456789+/";
     int alike = 1, sound = 1, cut = 1;
@@ -161,8 +171,10 @@ static void texts(unsigned rounds) {
         sound &= d.code <= 7 && 6 * d.tokens <= numbers && d.offset <= len && (d.code != 0 || d.offset == len);
         for (size_t t = 0; t < d.tokens && sound; t++)
             sound &= (table[6 * t + 4] == none || table[6 * t + 4] < s) && (table[6 * t + 5] == none || table[6 * t + 5] < n);
-        pgk_decoded e = decode_at(mode, LAST, LAST, text, d.offset, s, n, again, numbers, &alike);
-        cut &= e.code == 0 && e.tokens == d.tokens && e.offset == d.offset && memcmp(table, again, sizeof table) == 0;
+        size_t begin = (size_t)d.offset;
+        while (d.code != 0 && begin > 0 && text[begin - 1] != ',' && text[begin - 1] != ';') begin--;
+        pgk_decoded e = decode_at(mode, LAST, LAST, text, begin, s, n, again, numbers, &alike);
+        cut &= e.code == 0 && e.tokens == d.tokens && e.offset == begin && memcmp(table, again, sizeof table) == 0;
     }
     check(alike, "texts: one answer in every placement, nothing outside touched");
     check(sound, "texts: counts, offsets and ids within their bounds");

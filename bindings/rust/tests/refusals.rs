@@ -35,22 +35,26 @@ fn done() {
 
 #[test]
 fn decoding() {
-    let at = Some(AT);
+    let at = |offset| Stop { tokens: 1, offset };
     for checked in [false, true] {
-        holds(second("!", checked), Refusal::VlqLeftover { at: AT }, 1, 0, at, "byte 5: a value is cut short");
-        holds(second("gggggggggggggA", checked), Refusal::VlqOverflow { at: AT }, 2, 0, at, "more than 13 digits");
-        holds(second("AAA", checked), Refusal::BadSegmentSize { fields: 3, at: AT }, 3, 3, at, "3 fields");
-        holds(second("D", checked), Refusal::BadSegmentSize { fields: 0, at: AT }, 3, 0, at, "below 0");
-        holds(second("ACAA", checked), Refusal::BadSourceReference { source_id: 0, at: AT }, 4, 0, at, "source");
-        holds(second("AAAAC", checked), Refusal::BadNameReference { name_id: 1, at: AT }, 5, 1, at, "name 1");
+        holds(second("!", checked), Refusal::VlqLeftover { at: at(6) }, 1, 0, Some(at(6)), "byte 6: a value is cut short");
+        holds(second("!,A", checked), Refusal::VlqLeftover { at: at(6) }, 1, 0, Some(at(6)), "byte 6: a value is cut short");
+        holds(second("gggggggggggggA", checked), Refusal::VlqOverflow { at: at(18) }, 2, 0, Some(at(18)), "byte 18: a value has more than 13 digits");
+        holds(second("AAA", checked), Refusal::BadSegmentSize { fields: 3, at: at(5) }, 3, 3, Some(at(5)), "byte 5: a segment has 3 fields");
+        holds(second("D", checked), Refusal::BadSegmentSize { fields: 0, at: at(5) }, 3, 0, Some(at(5)), "byte 5: a column or line falls below 0");
+        holds(second("gAADA", checked), Refusal::BadSegmentSize { fields: 0, at: at(8) }, 3, 0, Some(at(8)), "byte 8: a column or line falls below 0");
+        holds(second("AAAD", checked), Refusal::BadSegmentSize { fields: 0, at: at(8) }, 3, 0, Some(at(8)), "byte 8: a column or line falls below 0");
+        holds(second("ACAA", checked), Refusal::BadSourceReference { source_id: 0, at: at(6) }, 4, 0, Some(at(6)), "byte 6: a segment refers to a source");
+        holds(second("AAAAC", checked), Refusal::BadNameReference { name_id: 1, at: at(9) }, 5, 1, Some(at(9)), "byte 9: a segment refers to name 1");
     }
-    holds(second("AAAAD", false), Refusal::BadNameReference { name_id: NONE, at: AT }, 5, 4294967295, at, "name 4294967295");
-    holds(second("ggggggI", true), Refusal::WideValue { field: 0, at: AT }, 6, 0, at, "generated column");
-    holds(second("AAggggggIA", true), Refusal::WideValue { field: 2, at: AT }, 6, 2, at, "source line");
-    holds(second("AAAggggggI", true), Refusal::WideValue { field: 3, at: AT }, 6, 3, at, "source column");
-    holds(second("AAAAD", true), Refusal::WideValue { field: 4, at: AT }, 6, 4, at, "name id");
+    let lost = Refusal::BadNameReference { name_id: NONE, at: at(9) };
+    holds(second("AAAAD", false), lost, 5, 4294967295, Some(at(9)), "name 4294967295");
+    holds(second("ggggggI", true), Refusal::WideValue { field: 0, at: at(5) }, 6, 0, Some(at(5)), "byte 5: a generated column");
+    holds(second("AAggggggIA", true), Refusal::WideValue { field: 2, at: at(7) }, 6, 2, Some(at(7)), "byte 7: a source line");
+    holds(second("AAAggggggI", true), Refusal::WideValue { field: 3, at: at(8) }, 6, 3, Some(at(8)), "byte 8: a source column");
+    holds(second("AAAAD", true), Refusal::WideValue { field: 4, at: at(9) }, 6, 4, Some(at(9)), "byte 9: a name id");
     let full = decode_mapping(b"AAAA,A", 1, 0, &mut [7; 11]).unwrap_err();
-    holds(full, Refusal::TableFull { at }, 7, 0, at, "as many numbers as table_size counts");
+    holds(full, Refusal::TableFull { at: Some(AT) }, 7, 0, Some(AT), "as many numbers as table_size counts");
 }
 
 #[test]

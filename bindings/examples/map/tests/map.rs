@@ -136,11 +136,11 @@ fn refusals() {
         Err(Error::Refused(refusal)) => refusal,
         other => panic!("{other:?}"),
     };
-    let at = Stop { tokens: 1, offset: 5 };
-    assert_eq!(refused("AAAA,AAA"), Refusal::BadSegmentSize { fields: 3, at });
-    assert_eq!(refused("AAAA,AEAA"), Refusal::BadSourceReference { source_id: 0, at });
-    assert_eq!(refused("AAAA,AAAAG"), Refusal::BadNameReference { name_id: 3, at });
+    let at = |offset| Stop { tokens: 1, offset };
+    assert_eq!(refused("AAAA,AAA"), Refusal::BadSegmentSize { fields: 3, at: at(5) });
+    assert_eq!(refused("AAAA,AEAA"), Refusal::BadSourceReference { source_id: 0, at: at(6) });
+    assert_eq!(refused("AAAA,AAAAG"), Refusal::BadNameReference { name_id: 3, at: at(9) });
     // The crate drops the upper bits, and shows column 0.
-    assert_eq!(refused("AAAA,ggggggI"), Refusal::WideValue { field: 0, at });
+    assert_eq!(refused("AAAA,ggggggI"), Refusal::WideValue { field: 0, at: at(5) });
     assert!(read(&with("mappings", json!("AAAA,AAA"))).unwrap_err().to_string().contains("build the bundle and its map again"));
 }

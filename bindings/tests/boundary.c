@@ -236,8 +236,8 @@ static void writing(unsigned rounds) {
     for (int mode = 0; mode < 3; mode++) {
         int ok = decode_all(mode, (char *)got, 35, 4294967295u, 4294967295u, 6, (pgk_decoded){ 0, 0, 1, 35 }, back_again);
         check(ok && memcmp(back_again + 1, deep + 1, 20) == 0, "4294967295 sources and names");
-        check(decode_all(mode, (char *)got, 35, 4294967294u, 4294967295u, 6, (pgk_decoded){ 4, 0, 0, 0 }, NULL), "4294967294 sources");
-        check(decode_all(mode, (char *)got, 35, 4294967295u, 4294967294u, 6, (pgk_decoded){ 5, 4294967294u, 0, 0 }, NULL), "4294967294 names");
+        check(decode_all(mode, (char *)got, 35, 4294967294u, 4294967295u, 6, (pgk_decoded){ 4, 0, 0, 7 }, NULL), "4294967294 sources");
+        check(decode_all(mode, (char *)got, 35, 4294967295u, 4294967294u, 6, (pgk_decoded){ 5, 4294967294u, 0, 28 }, NULL), "4294967294 names");
     }
     int round = 1, joined = 1, room = 1;
     for (unsigned r = 0; r < rounds; r++) {

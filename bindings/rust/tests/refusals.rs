@@ -35,24 +35,33 @@ fn done() {
 
 #[test]
 fn decoding() {
+    // Each is refused at the byte at fault.
     let at = |offset| Stop { tokens: 1, offset };
-    for checked in [false, true] {
-        holds(second("!", checked), Refusal::VlqLeftover { at: at(6) }, 1, 0, Some(at(6)), "byte 6: a value is cut short");
-        holds(second("!,A", checked), Refusal::VlqLeftover { at: at(6) }, 1, 0, Some(at(6)), "byte 6: a value is cut short");
-        holds(second("gggggggggggggA", checked), Refusal::VlqOverflow { at: at(18) }, 2, 0, Some(at(18)), "byte 18: a value has more than 13 digits");
-        holds(second("AAA", checked), Refusal::BadSegmentSize { fields: 3, at: at(5) }, 3, 3, Some(at(5)), "byte 5: a segment has 3 fields");
-        holds(second("D", checked), Refusal::BadSegmentSize { fields: 0, at: at(5) }, 3, 0, Some(at(5)), "byte 5: a column or line falls below 0");
-        holds(second("gAADA", checked), Refusal::BadSegmentSize { fields: 0, at: at(8) }, 3, 0, Some(at(8)), "byte 8: a column or line falls below 0");
-        holds(second("AAAD", checked), Refusal::BadSegmentSize { fields: 0, at: at(8) }, 3, 0, Some(at(8)), "byte 8: a column or line falls below 0");
-        holds(second("ACAA", checked), Refusal::BadSourceReference { source_id: 0, at: at(6) }, 4, 0, Some(at(6)), "byte 6: a segment refers to a source");
-        holds(second("AAAAC", checked), Refusal::BadNameReference { name_id: 1, at: at(9) }, 5, 1, Some(at(9)), "byte 9: a segment refers to name 1");
-    }
+    let both = |segment: &str, want: Refusal, code, number, says: &str| {
+        for checked in [false, true] {
+            holds(second(segment, checked), want, code, number, want.at(), says);
+        }
+    };
+    both("!", Refusal::VlqLeftover { at: at(6) }, 1, 0, "byte 6: a value is cut short");
+    both("!,A", Refusal::VlqLeftover { at: at(6) }, 1, 0, "byte 6: a value is cut short");
+    both("gggggggggggggA", Refusal::VlqOverflow { at: at(18) }, 2, 0, "byte 18: a value has more than 13 digits");
+    both("AAA", Refusal::BadSegmentSize { fields: 3, at: at(5) }, 3, 3, "byte 5: a segment has 3 fields");
+    both("D", Refusal::BadSegmentSize { fields: 0, at: at(5) }, 3, 0, "byte 5: a column or line falls below 0");
+    both("gAADA", Refusal::BadSegmentSize { fields: 0, at: at(8) }, 3, 0, "byte 8: a column or line falls below 0");
+    both("AAAD", Refusal::BadSegmentSize { fields: 0, at: at(8) }, 3, 0, "byte 8: a column or line falls below 0");
+    both("ACAA", Refusal::BadSourceReference { source_id: 0, at: at(6) }, 4, 0, "byte 6: a segment refers to a source");
+    both("AAAAC", Refusal::BadNameReference { name_id: 1, at: at(9) }, 5, 1, "byte 9: a segment refers to name 1");
     let lost = Refusal::BadNameReference { name_id: NONE, at: at(9) };
     holds(second("AAAAD", false), lost, 5, 4294967295, Some(at(9)), "name 4294967295");
-    holds(second("ggggggI", true), Refusal::WideValue { field: 0, at: at(5) }, 6, 0, Some(at(5)), "byte 5: a generated column");
-    holds(second("AAggggggIA", true), Refusal::WideValue { field: 2, at: at(7) }, 6, 2, Some(at(7)), "byte 7: a source line");
-    holds(second("AAAggggggI", true), Refusal::WideValue { field: 3, at: at(8) }, 6, 3, Some(at(8)), "byte 8: a source column");
-    holds(second("AAAAD", true), Refusal::WideValue { field: 4, at: at(9) }, 6, 4, Some(at(9)), "byte 9: a name id");
+    for (segment, field, offset, says) in [
+        ("ggggggI", 0, 5, "byte 5: a generated column"),
+        ("AAggggggIA", 2, 7, "byte 7: a source line"),
+        ("AAAggggggI", 3, 8, "byte 8: a source column"),
+        ("AAAAD", 4, 9, "byte 9: a name id"),
+    ] {
+        let wide = Refusal::WideValue { field, at: at(offset) };
+        holds(second(segment, true), wide, 6, u64::from(field), Some(at(offset)), says);
+    }
     let full = decode_mapping(b"AAAA,A", 1, 0, &mut [7; 11]).unwrap_err();
     holds(full, Refusal::TableFull { at: Some(AT) }, 7, 0, Some(AT), "as many numbers as table_size counts");
 }

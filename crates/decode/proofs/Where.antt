@@ -1,13 +1,12 @@
 -- Where a refused decode says that the fault is, and that the tokens before it are kept. Assumes nothing.
 use mathlib.Core.Path.{_≡_, refl, sym, _∙_, ap, subst}
-use mathlib.Core.Bool.{Bool, true, false}
+use mathlib.Core.Bool.{true, false}
 use mathlib.Core.List.{List, [], _∷_}
 use Prim.Native.Nat.{ℕ, zero, suc, _+_, _-_, _<_, _≤_}
 use native.Mathlib.Omega.{arith}
-use native.Mathlib.Nat.{zero-add}
 use lib.Dec.{T}
 use lib.ListN.{length, take, drop, getD, length-drop}
-use lib.Seq.{drop-drop, drop-cons, getD-drop, length-take-le}
+use lib.Seq.{drop-drop, getD-drop, length-take-le}
 use Rattle.code.specs.declared.Code.{Code}
 use Rattle.digits.specs.Digits.{isDelim}
 use Rattle.token.specs.Table.{places, over}
@@ -22,7 +21,7 @@ use Rattle.step.proofs.Ends.{closes}
 use Rattle.step.proofs.Faults as step
 use Rattle.step.proofs.Faults.{Delims, Lying, lying, nothing-before, put-take}
 use Rattle.decode.specs.declared.Decoded.{Decoded}
-use Rattle.decode.specs.Mapping.{Out, stopped, tokenThen, full, placed, run, decoded, answer, Decodes}
+use Rattle.decode.specs.Mapping.{Out, stopped, tokenThen, full, placed, run, decoded, answer}
 use Rattle.decode.specs.Where.{Begins, Fault, Located}
 
 yes-no : {A : Type 0} → true ≡ false → A

@@ -1,13 +1,12 @@
 -- Where the fields of a segment end: at a delimiter, or at the end. Assumes nothing.
-use mathlib.Core.Path.{_≡_, refl, sym, _∙_, ap, subst}
+use mathlib.Core.Path.{_≡_, refl, sym, subst}
 use mathlib.Core.Bool.{Bool, true, false}
 use mathlib.Core.List.{List, [], _∷_}
-use Prim.Native.Nat.{ℕ, zero, suc, _+_, _-_, _<_, _≤_}
+use Prim.Native.Nat.{ℕ, zero, suc, _+_, _-_, _≤_}
 use native.Mathlib.Omega.{arith}
 use lib.ListN.{drop}
 use Rattle.list.specs.Pick.{pick}
 use Rattle.digits.specs.Digits.{isDelim}
-use Rattle.value.specs.Value.{valueOf}
 use Rattle.value.specs.declared.Mode.{Mode}
 use Rattle.vlq.specs.Vlq.{Digits, cut, long, num, digitsFrom, vlqFrom, vlqOf}
 use Rattle.vlq.specs.declared.Vlq.{Vlq}

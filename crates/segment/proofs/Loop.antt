@@ -16,8 +16,7 @@ use Rattle.vlq.specs.declared.Vlq.the-variants.{End, Value, Leftover, Overflow}
 use Rattle.vlq.proofs.Values.{Read, value}
 use Rattle.segment.specs.Segment.{Field, Fields, whole, leftover, overflow, before, fieldThen, fieldsFrom, values, zeros, segmentOf, segmentAt}
 use Rattle.segment.specs.declared.Ending.{Ending}
-use Rattle.segment.specs.declared.Segment.{Segment}
-use Rattle.segment.proofs.Five.{five, keeps, passes}
+use Rattle.segment.proofs.Five.{keeps, passes}
 use Rattle.segment.proofs.Reach.{answered, past}
 
 -- fields before others

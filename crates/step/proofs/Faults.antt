@@ -8,7 +8,6 @@ use native.Mathlib.Omega.{arith}
 use lib.Dec.{T, eqb}
 use lib.ListN.{length, take, drop, getD}
 use Rattle.list.specs.Pick.{pick}
-use Rattle.code.specs.declared.Code.{Code}
 use Rattle.digits.specs.Digits.{isDelim}
 use Rattle.token.specs.declared.Token.{Token}
 use Rattle.value.specs.declared.Mode.{Mode}

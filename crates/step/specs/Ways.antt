@@ -13,7 +13,6 @@ use Rattle.value.specs.declared.Mode.{Mode}
 use Rattle.segment.specs.Segment.{fieldsFrom}
 use Rattle.segment.specs.Fields.{placeFrom}
 use Rattle.apply.specs.Apply.{state}
-use Rattle.code.specs.declared.Code.{Code}
 use Rattle.apply.specs.declared.State.{State}
 use Rattle.apply.specs.declared.About.{About}
 use Rattle.apply.specs.declared.Applied.{Applied}

@@ -1,16 +1,13 @@
 -- A table with a place for each segment is never full. Assumes nothing.
-use mathlib.Core.Path.{_≡_, refl, sym, _∙_, ap, subst}
+use mathlib.Core.Path.{_≡_, refl, sym, _∙_, subst}
 use mathlib.Core.Bool.{Bool, true, false}
 use mathlib.Core.List.{List, [], _∷_}
-use Prim.Native.Nat.{ℕ, zero, suc, _+_, _-_, _*_, _/_, _^_, _<_, _≤_}
+use Prim.Native.Nat.{ℕ, zero, suc, _+_, _-_, _*_, _^_, _<_, _≤_}
 use native.Mathlib.Omega.{arith}
 use lib.Dec.{T, eqb, ltb}
 use lib.ListN.{length, drop}
 use lib.Seq.{drop-drop}
-use borrow.Author.Tests.{eqb-true, eq-eqb, ne-eqb, eqb-false, ltb-true, ltb-false}
 use Rattle.list.specs.Pick.{pick}
-use Rattle.code.specs.Code.{codeOf}
-use Rattle.code.specs.declared.Code.{Code}
 use Rattle.token.specs.Table.{width, places}
 use Rattle.token.specs.declared.Token.{Token}
 use Rattle.digits.specs.Digits.{isDelim}
@@ -23,7 +20,7 @@ use Rattle.apply.specs.Apply.{applied}
 use Rattle.apply.proofs.Lands.{Plain, Lands, lands}
 use Rattle.step.specs.declared.Step.{Step}
 use Rattle.step.specs.Step.{start, commaed, lined, stepped, segmentStep, stepFrom, stepAt}
-use Rattle.decode.specs.Mapping.{Out, stopped, tokenThen, full, placed, run, decoded}
+use Rattle.decode.specs.Mapping.{full, placed, run, decoded}
 use Rattle.table_size.specs.Size.{segmentsFrom, tableSize, NeverFull}
 
 -- ---- segments

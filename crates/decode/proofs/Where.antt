@@ -1,6 +1,6 @@
 -- Where a refused decode says that the fault is, and that the tokens before it are kept. Assumes nothing.
 use mathlib.Core.Path.{_≡_, refl, sym, _∙_, ap, subst}
-use mathlib.Core.Bool.{true, false}
+use mathlib.Core.Bool.{Bool, true, false}
 use mathlib.Core.List.{List, [], _∷_}
 use Prim.Native.Nat.{ℕ, zero, suc, _+_, _-_, _<_, _≤_}
 use native.Mathlib.Omega.{arith}
@@ -12,14 +12,14 @@ use Rattle.digits.specs.Digits.{isDelim}
 use Rattle.token.specs.Table.{places, over}
 use Rattle.token.specs.declared.Token.{Token}
 use Rattle.value.specs.declared.Mode.{Mode}
-use Rattle.segment.proofs.Within.{Clear}
+use Rattle.segment.proofs.Within.{Each, Clear}
 use Rattle.apply.specs.declared.State.{State}
 use Rattle.step.specs.declared.Step.{Step}
 use Rattle.step.specs.Step.{start, stepFrom, stepAt}
 use Rattle.step.specs.Ways.{Closes}
 use Rattle.step.proofs.Ends.{closes}
 use Rattle.step.proofs.Faults as step
-use Rattle.step.proofs.Faults.{Delims, Lying, lying, nothing-before, put-take}
+use Rattle.step.proofs.Faults.{Lying, lying, nothing-before, put-take}
 use Rattle.decode.specs.declared.Decoded.{Decoded}
 use Rattle.decode.specs.Mapping.{Out, stopped, tokenThen, full, placed, run, decoded, answer}
 use Rattle.decode.specs.Where.{Begins, Fault, Located}
@@ -28,22 +28,16 @@ yes-no : {A : Type 0} → true ≡ false → A
 yes-no e = absurd (subst T e tt)
 
 -- ---- of the bytes at a place, one by one
-clear-one : (k : ℕ) (l : List ℕ) → Clear k l → (i : ℕ) → i < k → isDelim (getD l i 0) ≡ false
-clear-one zero l h i q = absurd (omega arith)
-clear-one (suc k) [] h i q = absurd h
-clear-one (suc k) (b ∷ bs) h zero q = h .0
-clear-one (suc k) (b ∷ bs) h (suc i) q = clear-one k bs (h .1) i (omega arith)
+each-one : (t : Bool) (k : ℕ) (l : List ℕ) → Each t k l → (i : ℕ) → i < k → isDelim (getD l i 0) ≡ t
+each-one t zero l h i q = absurd (omega arith)
+each-one t (suc k) [] h i q = absurd h
+each-one t (suc k) (b ∷ bs) h zero q = h .0
+each-one t (suc k) (b ∷ bs) h (suc i) q = each-one t k bs (h .1) i (omega arith)
 
 clear-long : (k : ℕ) (l : List ℕ) → Clear k l → k ≤ length l
 clear-long zero l h = omega arith
 clear-long (suc k) [] h = absurd h
 clear-long (suc k) (b ∷ bs) h = omega (arith, clear-long k bs (h .1))
-
-delim-one : (k : ℕ) (l : List ℕ) → Delims k l → (i : ℕ) → i < k → isDelim (getD l i 0) ≡ true
-delim-one zero l h i q = absurd (omega arith)
-delim-one (suc k) [] h i q = absurd h
-delim-one (suc k) (b ∷ bs) h zero q = h .0
-delim-one (suc k) (b ∷ bs) h (suc i) q = delim-one k bs (h .1) i (omega arith)
 
 -- the beginning of a part is a part of the beginning
 take-nothing : (k : ℕ) → [] ≡ take {A = ℕ} k []
@@ -71,19 +65,19 @@ module _ (mode : Mode) (sources names : ℕ) (text : List ℕ) where
     begins-here =
         let c : Clear 1 (drop begin text) = rw there at (f .opens) in
         let e : getD (drop begin text) 0 0 ≡ getD text begin 0 = getD-drop begin text 0 0 ∙ ap (λ (n : ℕ). getD text n 0) (omega arith) in
-        (omega (arith, clear-long 1 (drop begin text) c, length-drop begin text), rw e at (clear-one 1 (drop begin text) c 0 (omega arith)))
+        (omega (arith, clear-long 1 (drop begin text) c, length-drop begin text), rw e at (each-one false 1 (drop begin text) c 0 (omega arith)))
 
     delim-before : (k : ℕ) → begin ≡ k + 1 → isDelim (getD text k 0) ≡ true
     delim-before k e = by (f .skip) (f .delims) (f .begin-is)
       where
-        by : (j : ℕ) → Delims j (drop (s .at) text) → begin ≡ s .at + j → isDelim (getD text k 0) ≡ true
+        by : (j : ℕ) → Each true j (drop (s .at) text) → begin ≡ s .at + j → isDelim (getD text k 0) ≡ true
         by zero d q =
             let n : begin ≡ s .at = omega (arith, q) in
             yes-no (sym (rw n (p (omega (arith, e, n)) (omega (arith, n, begins-here .0)))) ∙ begins-here .1)
         by (suc j) d q =
             let n : s .at + j ≡ k = omega (arith, q, e) in
             let g : getD (drop (s .at) text) j 0 ≡ getD text k 0 = getD-drop (s .at) text j 0 ∙ ap (λ (m : ℕ). getD text m 0) n in
-            rw (← g) (delim-one (suc j) (drop (s .at) text) d j (omega arith))
+            rw (← g) (each-one true (suc j) (drop (s .at) text) d j (omega arith))
 
     segment : Begins text begin
     segment = record { within = begins-here .0; opens = begins-here .1; behind = delim-before }
@@ -100,7 +94,7 @@ module _ (mode : Mode) (sources names : ℕ) (text : List ℕ) where
     inside : (k : ℕ) → begin ≤ k → k < offset → isDelim (getD text k 0) ≡ false
     inside k l h =
         let g : getD (drop begin text) (k - begin) 0 ≡ getD text k 0 = getD-drop begin text (k - begin) 0 ∙ ap (λ (m : ℕ). getD text m 0) (omega arith) in
-        rw (← g) (clear-one (offset - begin) (drop begin text) clear-here (k - begin) (omega arith))
+        rw (← g) (each-one false (offset - begin) (drop begin text) clear-here (k - begin) (omega arith))
 
     -- before it only delimiters are left
     nothing : stepAt mode sources names (take begin text) s ≡ Step.Done

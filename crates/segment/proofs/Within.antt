@@ -22,11 +22,14 @@ use Rattle.segment.proofs.Places.{Read, read, behind}
 zero-one : {A : Type 0} → _≡_ {A = ℕ} 0 1 → A
 zero-one z = absurd (omega arith)
 
--- ---- so many bytes, none of them a delimiter
+-- ---- so many bytes, each of them a delimiter, or none
+abbrev pub Each : Bool → ℕ → List ℕ → Type 0
+Each t zero bs = Unit {0}
+Each t (suc k) [] = ⊥
+Each t (suc k) (b ∷ bs) = (isDelim b ≡ t) × Each t k bs
+
 abbrev pub Clear : ℕ → List ℕ → Type 0
-Clear zero bs = Unit {0}
-Clear (suc k) [] = ⊥
-Clear (suc k) (b ∷ bs) = (isDelim b ≡ false) × Clear k bs
+Clear = Each false
 
 pub fewer-clear : (j k : ℕ) (bs : List ℕ) → j ≤ k → Clear k bs → Clear j bs
 fewer-clear zero k bs l h = tt
@@ -61,29 +64,25 @@ digits-clear left (b ∷ bs) = by (isDelim b) (eqb left 0) (ltb (digitOf b) 32) 
 Broke : ℕ → List ℕ → ℕ → Type 0
 Broke at l place = (at ≤ place) × Clear (place - at) l
 
-broke-at : (at k place : ℕ) (l : List ℕ) → at + k ≡ place → Clear k l → Broke at l place
+broke-at : (at k : ℕ) (l : List ℕ) → Clear k l → Broke at l (at + k)
 unfolding Broke
-broke-at at k place l e h = let n : place - at ≡ k = omega (arith, e) in (omega (arith, e), rw n h)
+broke-at at k l h = let n : at + k - at ≡ k = omega arith in (omega arith, rw n h)
 
-cut-broke : (at b : ℕ) (bs : List ℕ) (place : ℕ) → vlqOf at (b ∷ bs) ≡ Leftover place → Broke at (b ∷ bs) place
-unfolding vlqOf
-cut-broke at b bs place e = by (isDelim b) (digitsFrom 13 (b ∷ bs)) (digits-clear 13 (b ∷ bs)) e
-  where
-    by : (t : Bool) (r : Digits) → Clear (reach r) (b ∷ bs) → pick t End (vlqFrom at r) ≡ Leftover place → Broke at (b ∷ bs) place
-    by true r h w = zero-one cc
-    by false (cut k) h w = broke-at at k place (b ∷ bs) (cc) h
-    by false (long k) h w = zero-one cc
-    by false (num n len) h w = zero-one cc
+Breaks : ℕ → List ℕ → Vlq → Type 0
+Breaks at l End = Unit {0}
+Breaks at l (Value bits lost next) = Unit {0}
+Breaks at l (Leftover place) = Broke at l place
+Breaks at l (Overflow place) = Broke at l place
 
-long-broke : (at b : ℕ) (bs : List ℕ) (place : ℕ) → vlqOf at (b ∷ bs) ≡ Overflow place → Broke at (b ∷ bs) place
-unfolding vlqOf
-long-broke at b bs place e = by (isDelim b) (digitsFrom 13 (b ∷ bs)) (digits-clear 13 (b ∷ bs)) e
+breaks : (at b : ℕ) (bs : List ℕ) → Breaks at (b ∷ bs) (vlqOf at (b ∷ bs))
+unfolding vlqOf Breaks
+breaks at b bs = by (isDelim b) (digitsFrom 13 (b ∷ bs)) (digits-clear 13 (b ∷ bs))
   where
-    by : (t : Bool) (r : Digits) → Clear (reach r) (b ∷ bs) → pick t End (vlqFrom at r) ≡ Overflow place → Broke at (b ∷ bs) place
-    by true r h w = zero-one cc
-    by false (cut k) h w = zero-one cc
-    by false (long k) h w = broke-at at k place (b ∷ bs) (cc) h
-    by false (num n len) h w = zero-one cc
+    by : (t : Bool) (r : Digits) → Clear (reach r) (b ∷ bs) → Breaks at (b ∷ bs) (pick t End (vlqFrom at r))
+    by true r h = tt
+    by false (cut k) h = broke-at at k (b ∷ bs) h
+    by false (long k) h = broke-at at k (b ∷ bs) h
+    by false (num n len) h = tt
 
 read-clear : (at b : ℕ) (bs : List ℕ) (next : ℕ) (r : Read at (b ∷ bs) next) → (isDelim b ≡ false) × Clear (next - (at + 1)) bs
 read-clear at b bs next r =
@@ -122,7 +121,7 @@ nothing-lies : (at : ℕ) (bs : List ℕ) → Lies at bs (whole [] at)
 nothing-lies at bs = let n : at - at ≡ 0 = omega arith in (omega arith, (rw n tt, tt))
 
 pub lies : (mode : Mode) (skip at : ℕ) (bs : List ℕ) → Clear skip bs → Lies at bs (fieldsFrom mode skip at bs)
-unfolding fieldsFrom Broke
+unfolding fieldsFrom Broke Breaks
 lies mode zero at [] h = nothing-lies at []
 lies mode (suc skip) at [] h = absurd h
 lies mode (suc skip) at (b ∷ bs) h = later at b bs (fieldsFrom mode skip (at + 1) bs) (h .0) (lies mode skip (at + 1) bs (h .1))
@@ -135,8 +134,8 @@ lies mode zero at (b ∷ bs) h = by (vlqOf at (b ∷ bs)) refl (λ next. lies mo
         let c = read-clear at b bs next (read at b bs bits lost next e) in
         before-lies at (b ∷ bs) (record { value = valueOf mode bits lost; start = at }) (fieldsFrom mode (next - (at + 1)) (at + 1) bs) refl
         (later at b bs (fieldsFrom mode (next - (at + 1)) (at + 1) bs) (c .0) (ih next (c .1)))
-    by (Leftover place) e ih = cut-broke at b bs place e
-    by (Overflow place) e ih = long-broke at b bs place e
+    by (Leftover place) e ih = subst (Breaks at (b ∷ bs)) e (breaks at b bs)
+    by (Overflow place) e ih = subst (Breaks at (b ∷ bs)) e (breaks at b bs)
 
 -- ---- what stands behind plays no part: the first k bytes alone
 digits-take : (left k : ℕ) (l : List ℕ) (n len : ℕ) → digitsFrom left l ≡ num n len → len ≤ k → digitsFrom left (take k l) ≡ num n len

@@ -13,7 +13,7 @@ use Rattle.token.specs.declared.Token.{Token}
 use Rattle.value.specs.declared.Mode.{Mode}
 use Rattle.segment.specs.Segment.{Field, Fields, whole, leftover, overflow, starts, segmentOf, fieldsFrom}
 use Rattle.segment.proofs.Border.{Border, Ends, ends}
-use Rattle.segment.proofs.Within.{Clear, Between, Lies, lies, fewer-clear, fields-take}
+use Rattle.segment.proofs.Within.{Each, Clear, Between, Lies, lies, fewer-clear, fields-take}
 use Rattle.apply.specs.Apply.{applied}
 use Rattle.apply.specs.declared.State.{State}
 use Rattle.apply.specs.declared.About.{About}
@@ -26,17 +26,11 @@ use Rattle.step.specs.Step.{commaed, lined, offsetOf, stepped, segmentSt
 zero-one : {A : Type 0} → _≡_ {A = ℕ} 0 1 → A
 zero-one z = absurd (omega arith)
 
--- ---- so many bytes, each of them a delimiter
-abbrev pub Delims : ℕ → List ℕ → Type 0
-Delims zero bs = Unit {0}
-Delims (suc k) [] = ⊥
-Delims (suc k) (b ∷ bs) = (isDelim b ≡ true) × Delims k bs
-
 -- of the bytes that stand at a place: behind `skip` delimiters a segment begins, and no delimiter stands between its beginning and the offset
 pub record Fault (at : ℕ) (bs : List ℕ) (begin offset : ℕ) : Type 0 where
   pub skip : ℕ
   pub begin-is : begin ≡ at + skip
-  pub delims : Delims skip bs
+  pub delims : Each true skip bs
   pub opens : Clear 1 (drop skip bs)
   pub from : begin ≤ offset
   pub clear : Clear (offset - begin) (drop skip bs)
@@ -108,7 +102,7 @@ module _ (mode : Mode) (sources names : ℕ) where
       by false false p q u v = segment-lies s b bs (rw (p, q)) (fieldsFrom mode 0 (s .at) (b ∷ bs)) (lies mode 0 (s .at) (b ∷ bs) tt)
 
   -- ---- the first k bytes alone: only delimiters
-  pub nothing-before : (k : ℕ) (s : State) (bs : List ℕ) → Delims k bs → stepFrom mode sources names s (take k bs) ≡ Step.Done
+  pub nothing-before : (k : ℕ) (s : State) (bs : List ℕ) → Each true k bs → stepFrom mode sources names s (take k bs) ≡ Step.Done
   unfolding stepFrom isDelim
   nothing-before zero s [] h = refl
   nothing-before zero s (b ∷ bs) h = refl

@@ -47,59 +47,54 @@ module _ (mode : Mode) (text : List ℕ) (begin next : ℕ) (fs : List Field) (e
   step-is (Applied.Took t s) p = refl
   step-is (Applied.Refused code about) p = ap (Step.Refuse code) (place-is about p)
 
+-- ---- the fields of a segment that ended so
+zero-one : {A : Type 0} → _≡_ {A = ℕ} 0 1 → A
+zero-one z = absurd (omega arith)
+
+was-leftover : (f : Fields) (place : ℕ) → segmentOf f .end ≡ Ending.Leftover place → f ≡ leftover place
+was-leftover (whole fs next) place e = zero-one cc
+was-leftover (leftover p) place e = ap leftover (cc)
+was-leftover (overflow p) place e = zero-one cc
+
+was-overflow : (f : Fields) (place : ℕ) → segmentOf f .end ≡ Ending.Overflow place → f ≡ overflow place
+was-overflow (whole fs next) place e = zero-one cc
+was-overflow (leftover p) place e = zero-one cc
+was-overflow (overflow p) place e = ap overflow (cc)
+
 -- ---- a segment: g is what the segment reader gave
 module _ (mode : Mode) (sources names : ℕ) (text : List ℕ) (st : State) (g : Segment) (e : g ≡ segmentAt mode text (st .at)) where
   pub small : Small g
   small = record { small = λ i. rw e (nums-small mode text (st .at) i) }
 
-  abbrev is-from : Fields → Type 0
-  is-from f = fieldsFrom mode 0 (st .at) (drop (st .at) text) ≡ f
+  fields : Fields
+  fields = fieldsFrom mode 0 (st .at) (drop (st .at) text)
 
-  given : (f : Fields) → is-from f → g ≡ segmentOf f
-  unfolding segmentAt
-  given f q = e ∙ ap segmentOf q
-
-  zero-one : {A : Type 0} → _≡_ {A = ℕ} 0 1 → A
-  zero-one z = absurd (omega arith)
+  ended : g .end ≡ segmentOf fields .end
+  unfolding segmentAt fields
+  ended = ap (λ (x : Segment). x .end) e
 
   pub general-whole : g .end ≡ Ending.Whole → (a : Applied) → a ≡ applied mode sources names st g → (r : Step) → r ≡ steppedIn text (st .at) a
       → r ≡ segmentedAt mode sources names text st
-  unfolding segmentStep
-  general-whole w a ea r er = by (fieldsFrom mode 0 (st .at) (drop (st .at) text)) refl
+  unfolding segmentStep segmentAt fields
+  general-whole w a ea r er = by fields refl (sym ended ∙ w)
     where
-      by : (f : Fields) → is-from f → r ≡ segmentedAt mode sources names text st
-      by (whole fs next) q =
-          er ∙ ap (steppedIn text (st .at)) (ea ∙ ap (applied mode sources names st) (given (whole fs next) q))
+      by : (f : Fields) → fields ≡ f → segmentOf f .end ≡ Ending.Whole → r ≡ segmentedAt mode sources names text st
+      by (whole fs next) q v =
+          er ∙ ap (steppedIn text (st .at)) (ea ∙ ap (applied mode sources names st) (e ∙ ap segmentOf q))
           ∙ step-is mode text (st .at) next fs q (applied mode sources names st (segmentOf (whole fs next))) (points mode sources names (segmentOf (whole fs next)) st)
           ∙ sym (rw q)
-      by (leftover place) q = let z : Ending.Whole ≡ Ending.Leftover place = sym w ∙ ap (λ (x : Segment). x .end) (given (leftover place) q) in zero-one cc
-      by (overflow place) q = let z : Ending.Whole ≡ Ending.Overflow place = sym w ∙ ap (λ (x : Segment). x .end) (given (overflow place) q) in zero-one cc
+      by (leftover place) q v = zero-one cc
+      by (overflow place) q v = zero-one cc
 
   pub general-leftover : (place : ℕ) → g .end ≡ Ending.Leftover place → (o : ℕ) → o ≡ offsetIn text (st .at) (About.Place place)
       → Step.Refuse Code.VlqLeftover o ≡ segmentedAt mode sources names text st
-  unfolding segmentStep offsetOf
-  general-leftover place w o eo = by (fieldsFrom mode 0 (st .at) (drop (st .at) text)) refl
-    where
-      by : (f : Fields) → is-from f → Step.Refuse Code.VlqLeftover o ≡ segmentedAt mode sources names text st
-      by (whole fs next) q = let z : Ending.Leftover place ≡ Ending.Whole = sym w ∙ ap (λ (x : Segment). x .end) (given (whole fs next) q) in zero-one cc
-      by (leftover p) q =
-          let z : Ending.Leftover place ≡ Ending.Leftover p = sym w ∙ ap (λ (x : Segment). x .end) (given (leftover p) q) in
-          let y : place ≡ p = cc in
-          ap (Step.Refuse Code.VlqLeftover) (eo ∙ y) ∙ sym (rw q)
-      by (overflow p) q = let z : Ending.Leftover place ≡ Ending.Overflow p = sym w ∙ ap (λ (x : Segment). x .end) (given (overflow p) q) in zero-one cc
+  unfolding segmentStep offsetOf fields
+  general-leftover place w o eo = rw (was-leftover fields place (sym ended ∙ w), eo)
 
   pub general-overflow : (place : ℕ) → g .end ≡ Ending.Overflow place → (o : ℕ) → o ≡ offsetIn text (st .at) (About.Place place)
       → Step.Refuse Code.VlqOverflow o ≡ segmentedAt mode sources names text st
-  unfolding segmentStep offsetOf
-  general-overflow place w o eo = by (fieldsFrom mode 0 (st .at) (drop (st .at) text)) refl
-    where
-      by : (f : Fields) → is-from f → Step.Refuse Code.VlqOverflow o ≡ segmentedAt mode sources names text st
-      by (whole fs next) q = let z : Ending.Overflow place ≡ Ending.Whole = sym w ∙ ap (λ (x : Segment). x .end) (given (whole fs next) q) in zero-one cc
-      by (leftover p) q = let z : Ending.Overflow place ≡ Ending.Leftover p = sym w ∙ ap (λ (x : Segment). x .end) (given (leftover p) q) in zero-one cc
-      by (overflow p) q =
-          let z : Ending.Overflow place ≡ Ending.Overflow p = sym w ∙ ap (λ (x : Segment). x .end) (given (overflow p) q) in
-          let y : place ≡ p = cc in
-          ap (Step.Refuse Code.VlqOverflow) (eo ∙ y) ∙ sym (rw q)
+  unfolding segmentStep offsetOf fields
+  general-overflow place w o eo = rw (was-overflow fields place (sym ended ∙ w), eo)
 
 -- ---- the two delimiters
 yes-no : false ≡ true → ⊥

@@ -106,8 +106,13 @@ module _ (mode : Mode) (sources names : ℕ) (g : Segment) where
       others : Applied
       others = pick (eqb (g .count) 4) (four mode sources s g) fives
 
+  steps : (s : State) → Lands (g .next) (onward (columned mode s g) λ r. counted mode sources names r g)
+  steps s =
+      onward-lands (g .next) (g .next) (columned mode s g) (λ r. counted mode sources names r g) (column s)
+      (λ r e. subst (λ (n : ℕ). Lands n (counted mode sources names r g)) e (by-count r))
+
   pub lands : (s : State) → Lands (g .next) (applied mode sources names s g)
   unfolding applied
   lands s =
-      onward-lands (g .next) (g .next) (columned mode s g) (λ r. counted mode sources names r g) (column s)
-      (λ r e. subst (λ (n : ℕ). Lands n (counted mode sources names r g)) e (by-count r))
+      picked (Lands (g .next)) (ltb (g .wide) 5) (Applied.Refused (Code.WideValue (g .wide)) (About.Field (g .wide)))
+      (onward (columned mode s g) λ r. counted mode sources names r g) (λ e. omega arith) (steps s)

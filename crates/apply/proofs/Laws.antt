@@ -2,7 +2,7 @@
 use mathlib.Core.Path.{_≡_, sym, _∙_, ap}
 use Prim.Native.Nat.{ℕ, _≤_, _%_, _^_}
 use native.Mathlib.Omega.{arith}
-use borrow.Author.Tests.{eq-eqb, ne-eqb}
+use borrow.Author.Tests.{le-ltb, eq-eqb, ne-eqb}
 use lib.IntN.{ℤ, natAbs}
 use mir.Syntax.{w64}
 use mir.Val.{toZ, ofZ}
@@ -72,10 +72,10 @@ module _ (mode : Mode) (sources names : ℕ) (s : State) (g : Segment) where
   unfolding counted
   count-other a b c = rw (ne-eqb (g .count) 1 a, ne-eqb (g .count) 4 b, ne-eqb (g .count) 5 c)
 
-  pub took-column : (r : State) (a : Applied) → Moved.To r ≡ columned mode s g → a ≡ counted mode sources names r g → a ≡ applied mode sources names s g
+  pub took-column : 5 ≤ g .wide → (r : State) (a : Applied) → Moved.To r ≡ columned mode s g → a ≡ counted mode sources names r g → a ≡ applied mode sources names s g
   unfolding applied
-  took-column r a e f = rw (← e) f
+  took-column w r a e f = rw (le-ltb (g .wide) 5 w, ← e) f
 
-  pub no-column : (code : Code) (about : About) → Moved.No code about ≡ columned mode s g → Applied.Refused code about ≡ applied mode sources names s g
+  pub no-column : 5 ≤ g .wide → (code : Code) (about : About) → Moved.No code about ≡ columned mode s g → Applied.Refused code about ≡ applied mode sources names s g
   unfolding applied
-  no-column code about e = rw (← e)
+  no-column w code about e = rw (le-ltb (g .wide) 5 w, ← e)

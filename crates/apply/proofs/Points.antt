@@ -5,7 +5,7 @@ use Prim.Native.Nat.{ℕ, _%_, _^_, _<_}
 use native.Mathlib.Omega.{arith}
 use lib.Dec.{eqb, ltb}
 use lib.IntN.{pos, _+ℤ_}
-use borrow.Author.Tests.{eqb-true}
+use borrow.Author.Tests.{eqb-true, ltb-true}
 use Rattle.list.specs.Pick.{pick}
 use Rattle.code.specs.declared.Code.{Code}
 use Rattle.token.specs.Table.{noId}
@@ -106,6 +106,12 @@ module _ (mode : Mode) (sources names : ℕ) (g : Segment) where
       by false false true p q = by-five (omega (arith, eqb-true (g .count) 5 q)) s
       by false false false p q = tt
 
-  pub points : (s : State) → Points (g .count) (applied mode sources names s g)
+  pub points : (g .wide < 5 → g .wide < g .count) → (s : State) → Points (g .count) (applied mode sources names s g)
   unfolding applied
-  points s = onward-points (g .count) (columned mode s g) (λ r. counted mode sources names r g) (column (g .count) s) by-count
+  points w s = by (ltb (g .wide) 5) refl
+    where
+      by : (t : Bool) → ltb (g .wide) 5 ≡ t
+          → Points (g .count)
+          (pick t (Applied.Refused (Code.WideValue (g .wide)) (About.Field (g .wide))) (onward (columned mode s g) λ r. counted mode sources names r g))
+      by true p = λ z. w (ltb-true (g .wide) 5 p)
+      by false p = onward-points (g .count) (columned mode s g) (λ r. counted mode sources names r g) (column (g .count) s) by-count

@@ -15,13 +15,13 @@ use Rattle.apply.specs.declared.Moved.{Moved}
 use Rattle.apply.specs.declared.Applied.{Applied}
 use Rattle.apply.specs.Apply.{state, num, columned, mapped, named, shown, four, five, counted, applied}
 
-module _ (mode : Mode) (sources names : ℕ) (s : State) (g : Segment) (col : ℕ) (e₀ : sumOf mode (pos (s .«dst_col») +ℤ num 0 g) ≡ Kept.At col) where
+module _ (mode : Mode) (sources names : ℕ) (s : State) (g : Segment) (narrow : g .wide ≡ 5) (col : ℕ) (e₀ : sumOf mode (pos (s .«dst_col») +ℤ num 0 g) ≡ Kept.At col) where
   abbrev columns : State
   columns = state (s .«dst_line») col (s .«src_line») (s .«src_col») (s .«source_id») (s .«name_id») (g .next)
 
   past-column : applied mode sources names s g ≡ counted mode sources names columns g
   unfolding applied columned
-  past-column = rw e₀
+  past-column = rw (narrow, e₀)
 
   pub takes-one : g .count ≡ 1 → applied mode sources names s g ≡ Applied.Took (shown columns noId noId) columns
   unfolding counted

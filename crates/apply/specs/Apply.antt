@@ -91,6 +91,8 @@ counted mode sources names s g =
     (pick (eqb (g .count) 5) (five mode sources names s g)
     (Applied.Refused (Code.BadSegmentSize (g .count % 2 ^ 32)) About.Whole)))
 
--- steps 1 to 5, in order, of a segment whose values are all read
+-- a segment whose values are all read: none of the first five is too wide, then steps 1 to 5, in order
 unfoldable pub applied : Mode → ℕ → ℕ → State → Segment → Applied
-applied mode sources names s g = onward (columned mode s g) λ r. counted mode sources names r g
+applied mode sources names s g =
+    pick (ltb (g .wide) 5) (Applied.Refused (Code.WideValue (g .wide)) (About.Field (g .wide)))
+    (onward (columned mode s g) λ r. counted mode sources names r g)

@@ -170,11 +170,15 @@ fn apply_count(mode: Mode, sources: u32, names: u32, s: State, g: Segment) -> Ap
     }
 }
 
-// Steps 1 to 5 of a segment whose values are all read.
+// A segment whose values are all read: none of the first five is too wide, then steps 1 to 5.
 pub fn apply_segment(mode: Mode, sources: u32, names: u32, s: State, g: Segment) -> Applied
     requires { ⌜ Small g ⌝ }
     ensures { λ r. ⌜ r ≡ applied mode sources names s g ⌝ }
 {
+    let wide = g.wide;
+    if wide < 5 {
+        return Applied::Refused(Code::WideValue(wide), About::Field(wide));
+    }
     let c = column(mode, s, g);
     match c {
         Moved::No(code, about) => Applied::Refused(code, about),

@@ -10,9 +10,9 @@ use Rattle.digits.specs.Digits.{digitOf, isDelim}
 abbrev pub stepOf : ℕ → ℕ
 stepOf d = pick (eqb (d % 2) 1) (16 - d / 2) (16 + d / 2)
 
--- a byte as a value of one digit: its step; 80 for a delimiter, 160 for any other byte
+-- a byte as a value of one digit that is not minus zero: its step; 80 for a delimiter, 160 for any other byte
 unfoldable pub shortOf : ℕ → ℕ
-shortOf b = pick (isDelim b) 80 (pick (ltb (digitOf b) 32) (stepOf (digitOf b)) 160)
+shortOf b = pick (isDelim b) 80 (pick (eqb (digitOf b) 1) 160 (pick (ltb (digitOf b) 32) (stepOf (digitOf b)) 160))
 
 -- four bytes as one number, the first lowest
 abbrev pub word : ℕ → ℕ → ℕ → ℕ → ℕ

@@ -29,3 +29,9 @@ module _ {A : Type 0} (z v : A) (xs : List A) (count : ℕ) (counted : length xs
       take-append-le 5 xs (five z) (omega (arith, counted))
       ∙ sym (take-append-le 5 xs ((v ∷ []) ++ five z) (omega (arith, counted)))
       ∙ ap (take 5) (sym (append-assoc xs (v ∷ []) (five z)))
+
+-- a further filler changes nothing
+pub fills : {A : Type 0} (z : A) (xs : List A) → take 5 (xs ++ five z) ≡ take 5 ((xs ++ (z ∷ [])) ++ five z)
+fills z xs =
+    sym (take-append-le 5 (xs ++ five z) (z ∷ []) (omega (arith, length-append xs (five z))))
+    ∙ ap (take 5) (append-assoc xs (five z) (z ∷ []) ∙ sym (append-assoc xs (z ∷ []) (five z)))

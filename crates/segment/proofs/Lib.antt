@@ -1,5 +1,6 @@
 pub mod Border
 pub mod Five
+pub mod TooWide
 pub mod Loop
 pub mod OneDigit
 pub mod Places

@@ -3,29 +3,22 @@ use mathlib.Core.Path.{_≡_, refl, sym, _∙_, ap}
 use mathlib.Core.List.{List}
 use Prim.Native.Nat.{ℕ, _+_, _%_, _^_, _<_}
 use native.Mathlib.Omega.{arith}
-use lib.IntN.{ℤ}
-use lib.ListN.{length, getD, drop}
-use mir.Syntax.{w64}
-use mir.Val.{SFits, toZ, ofZ}
-use mir.ValLaws.{toZ-ofZ}
+use lib.ListN.{length, getD}
 use Rattle.digits.specs.Digits.{classOf, digitOf}
 use Rattle.digits.proofs.Ranges.{capital}
 use Rattle.digits.proofs.Tables.{Digit, is-digit}
 use Rattle.value.specs.Value.{valueOf}
 use Rattle.value.specs.declared.Mode.{Mode}
-use Rattle.value.proofs.Range.{value-range, small-fits}
+use Rattle.value.specs.declared.Judged.{Judged}
+use Rattle.value.specs.declared.Judged.the-variants.{Is, Wide}
 use Rattle.vlq.specs.Vlq.{vlqAt}
 use Rattle.vlq.specs.declared.Vlq.{Vlq}
 use Rattle.vlq.specs.declared.Vlq.the-variants.{End, Value, Leftover, Overflow}
 use Rattle.vlq.proofs.Steps.{one-digit}
-use Rattle.vlq.proofs.Values.{value-bits}
-use Rattle.segment.specs.Fields.{parsed, parsedAt}
+use Rattle.segment.specs.Fields.{judgedTo, parsed, parsedAt}
 use Rattle.segment.specs.declared.Parsed.{Parsed}
 
 module _ (mode : Mode) (s : List ℕ) (at : ℕ) where
-  fits : (bits lost : ℕ) → bits < 2 ^ 64 → SFits w64 (valueOf mode bits lost)
-  fits bits lost h = small-fits (valueOf mode bits lost) (value-range mode bits lost h)
-
   -- d is what the byte has above `A`
   module _ (d : ℕ) (h : at < length s) (is : (d + 65) % 2 ^ 8 ≡ getD s at 0) (l : d < 26) where
     byte : getD s at 0 ≡ d + 65
@@ -40,12 +33,9 @@ module _ (mode : Mode) (s : List ℕ) (at : ℕ) where
     digit : digitOf (getD s at 0) ≡ d
     digit = sym (o .is) ∙ class
 
-    pub capital-field : (x : ℤ) → x ≡ valueOf mode d 0 → Parsed.Value (toZ w64 (ofZ w64 x)) (at + 1) ≡ parsedAt mode s at
+    pub capital-field : judgedTo (valueOf mode d 0) (at + 1) ≡ parsedAt mode s at
     unfolding parsedAt
-    capital-field x e =
-        ap (λ (z : ℤ). Parsed.Value z (at + 1))
-        (ap (λ (z : ℤ). toZ w64 (ofZ w64 z)) e ∙ toZ-ofZ w64 (valueOf mode d 0) (fits d 0 (omega arith)))
-        ∙ ap (parsed mode) (ap (λ (n : ℕ). Value n 0 (at + 1)) (sym digit) ∙ sym (one-digit s at h (o .delim) (omega (arith, digit))))
+    capital-field = ap (parsed mode) (ap (λ (n : ℕ). Value n 0 (at + 1)) (sym digit) ∙ sym (one-digit s at h (o .delim) (omega (arith, digit))))
 
   -- v is what the reader gives
   module _ (v : Vlq) (is : v ≡ vlqAt s at) where
@@ -61,48 +51,56 @@ module _ (mode : Mode) (s : List ℕ) (at : ℕ) where
     unfolding parsedAt
     long-field place e = ap (parsed mode) (sym e ∙ is)
 
-    pub value-field : (bits lost next : ℕ) → v ≡ Value bits lost next → (x : ℤ) → x ≡ valueOf mode bits lost
-        → Parsed.Value (toZ w64 (ofZ w64 x)) next ≡ parsedAt mode s at
+    pub value-field : (bits lost next : ℕ) → v ≡ Value bits lost next → judgedTo (valueOf mode bits lost) next ≡ parsedAt mode s at
     unfolding parsedAt
-    value-field bits lost next e x ex =
-        ap (λ (z : ℤ). Parsed.Value z next)
-        (ap (λ (z : ℤ). toZ w64 (ofZ w64 z)) ex ∙ toZ-ofZ w64 (valueOf mode bits lost) (fits bits lost (bits-small bits lost next (sym e ∙ is))))
-        ∙ ap (parsed mode) (sym e ∙ is)
-      where
-        bits-small : (bits lost next : ℕ) → Value bits lost next ≡ vlqAt s at → bits < 2 ^ 64
-        bits-small bits lost next q = value-bits at (drop at s) bits lost next (sym q)
+    value-field bits lost next e = ap (parsed mode) (sym e ∙ is)
 
 -- ---- back from a field to what the reader gave
 zero-one : _≡_ {A = ℕ} 0 1 → ⊥
 zero-one z = omega arith
 
-pub record Found (mode : Mode) (v : Vlq) (x : ℤ) (next : ℕ) : Type 0 where
+pub record Found (mode : Mode) (v : Vlq) (x : Judged) (next : ℕ) : Type 0 where
   pub bits : ℕ
   pub lost : ℕ
   pub is : Value bits lost next ≡ v
   pub value : x ≡ valueOf mode bits lost
 
--- a signed local holds the value
-pub kept-is : {mode : Mode} {v : Vlq} {x : ℤ} {next : ℕ} (f : Found mode v x next) → SFits w64 (valueOf mode (f .bits) (f .lost))
-    → toZ w64 (ofZ w64 x) ≡ valueOf mode (f .bits) (f .lost)
-kept-is {mode} f h = ap (λ (z : ℤ). toZ w64 (ofZ w64 z)) (f .value) ∙ toZ-ofZ w64 (valueOf mode (f .bits) (f .lost)) h
+same : (x y : Judged) (m n : ℕ) → judgedTo x m ≡ judgedTo y n → (x ≡ y) × (m ≡ n)
+same (Is a) (Is b) m n e =
+    let p : a ≡ b = cc in
+    let q : m ≡ n = cc in (ap Is p, q)
+same (Is a) Wide m n e = absurd (zero-one cc)
+same Wide (Is b) m n e = absurd (zero-one cc)
+same Wide Wide m n e =
+    let q : m ≡ n = cc in (refl, q)
 
-found-in : (mode : Mode) (v : Vlq) (x : ℤ) (next : ℕ) → Parsed.Value x next ≡ parsed mode v → Found mode v x next
-found-in mode End x next e = absurd (zero-one cc)
+none-in : (x : Judged) (next : ℕ) → judgedTo x next ≡ Parsed.End → ⊥
+none-in (Is a) next e = zero-one cc
+none-in Wide next e = zero-one cc
+
+not-cut : (x : Judged) (next place : ℕ) → judgedTo x next ≡ Parsed.Leftover place → ⊥
+not-cut (Is a) next place e = zero-one cc
+not-cut Wide next place e = zero-one cc
+
+not-long : (x : Judged) (next place : ℕ) → judgedTo x next ≡ Parsed.Overflow place → ⊥
+not-long (Is a) next place e = zero-one cc
+not-long Wide next place e = zero-one cc
+
+found-in : (mode : Mode) (v : Vlq) (x : Judged) (next : ℕ) → judgedTo x next ≡ parsed mode v → Found mode v x next
+found-in mode End x next e = absurd (none-in x next e)
 found-in mode (Value bits lost n) x next e =
-    let q : next ≡ n = cc in
-    let z : x ≡ valueOf mode bits lost = cc in
-    record { bits = bits; lost = lost; is = ap (Value bits lost) q; value = z }
-found-in mode (Leftover place) x next e = absurd (zero-one cc)
-found-in mode (Overflow place) x next e = absurd (zero-one cc)
+    let q = same x (valueOf mode bits lost) next n e in
+    record { bits = bits; lost = lost; is = ap (Value bits lost) (q .1); value = q .0 }
+found-in mode (Leftover place) x next e = absurd (not-cut x next place e)
+found-in mode (Overflow place) x next e = absurd (not-long x next place e)
 
-pub found : (mode : Mode) (s : List ℕ) (at : ℕ) (x : ℤ) (next : ℕ) → Parsed.Value x next ≡ parsedAt mode s at → Found mode (vlqAt s at) x next
+pub found : (mode : Mode) (s : List ℕ) (at : ℕ) (x : Judged) (next : ℕ) → judgedTo x next ≡ parsedAt mode s at → Found mode (vlqAt s at) x next
 unfolding parsedAt
 found mode s at x next e = found-in mode (vlqAt s at) x next e
 
 ended-in : (mode : Mode) (v : Vlq) → Parsed.End ≡ parsed mode v → End ≡ v
 ended-in mode End e = refl
-ended-in mode (Value bits lost n) e = absurd (zero-one cc)
+ended-in mode (Value bits lost n) e = absurd (none-in (valueOf mode bits lost) n (sym e))
 ended-in mode (Leftover place) e = absurd (zero-one cc)
 ended-in mode (Overflow place) e = absurd (zero-one cc)
 
@@ -112,7 +110,7 @@ ended mode s at e = ended-in mode (vlqAt s at) e
 
 cut-in : (mode : Mode) (v : Vlq) (place : ℕ) → Parsed.Leftover place ≡ parsed mode v → Leftover place ≡ v
 cut-in mode End place e = absurd (zero-one cc)
-cut-in mode (Value bits lost n) place e = absurd (zero-one cc)
+cut-in mode (Value bits lost n) place e = absurd (not-cut (valueOf mode bits lost) n place (sym e))
 cut-in mode (Leftover p) place e = let q : place ≡ p = cc in ap Leftover q
 cut-in mode (Overflow p) place e = absurd (zero-one cc)
 
@@ -122,7 +120,7 @@ was-cut mode s at place e = cut-in mode (vlqAt s at) place e
 
 long-in : (mode : Mode) (v : Vlq) (place : ℕ) → Parsed.Overflow place ≡ parsed mode v → Overflow place ≡ v
 long-in mode End place e = absurd (zero-one cc)
-long-in mode (Value bits lost n) place e = absurd (zero-one cc)
+long-in mode (Value bits lost n) place e = absurd (not-long (valueOf mode bits lost) n place (sym e))
 long-in mode (Leftover p) place e = absurd (zero-one cc)
 long-in mode (Overflow p) place e = let q : place ≡ p = cc in ap Overflow q
 

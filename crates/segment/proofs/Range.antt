@@ -5,7 +5,7 @@ use Prim.Native.Nat.{ℕ, zero, suc, _+_, _-_, _^_, _≤_}
 use native.Mathlib.Omega.{arith}
 use lib.IntN.{ℤ, pos, natAbs}
 use lib.ListN.{length, take, drop, getD}
-use Rattle.value.specs.Value.{valueOf}
+use Rattle.value.specs.Value.{valueOf, numberOf}
 use Rattle.value.specs.declared.Mode.{Mode}
 use Rattle.value.proofs.Range.{value-range}
 use Rattle.vlq.specs.Vlq.{vlqOf}
@@ -37,7 +37,7 @@ Fine (whole fs next) = All (values fs)
 Fine (leftover at) = Unit {0}
 Fine (overflow at) = Unit {0}
 
-before-fine : (f : Field) (t : Fields) → natAbs (f .value) ≤ 2 ^ 62 → Fine t → Fine (before f t)
+before-fine : (f : Field) (t : Fields) → natAbs (numberOf (f .value)) ≤ 2 ^ 62 → Fine t → Fine (before f t)
 before-fine f (whole fs next) p q = (p, q)
 before-fine f (leftover at) p q = tt
 before-fine f (overflow at) p q = tt

@@ -2,9 +2,12 @@
 use mathlib.Core.List.{List, [], _∷_, _++_}
 use Prim.Native.Nat.{ℕ, zero, suc, _+_, _-_}
 use lib.IntN.{ℤ, pos}
+use lib.Dec.{ltb}
 use lib.ListN.{length, take, drop}
-use Rattle.value.specs.Value.{valueOf}
+use Rattle.list.specs.Pick.{pick, both}
+use Rattle.value.specs.Value.{valueOf, numberOf, isWide}
 use Rattle.value.specs.declared.Mode.{Mode}
+use Rattle.value.specs.declared.Judged.{Judged}
 use Rattle.vlq.specs.Vlq.{vlqOf}
 use Rattle.vlq.specs.declared.Vlq.{Vlq}
 use Rattle.vlq.specs.declared.Vlq.the-variants.{End, Value, Leftover, Overflow}
@@ -13,7 +16,7 @@ use Rattle.segment.specs.declared.Segment.{Segment}
 
 -- a field: its value, and the place where it begins
 pub record Field : Type 0 where
-  pub value : ℤ
+  pub value : Judged
   pub start : ℕ
 
 -- the fields of a segment and the place after them, or the place where one broke
@@ -42,7 +45,12 @@ fieldsFrom mode (suc skip) at (b ∷ bs) = fieldsFrom mode skip (at + 1) bs
 
 abbrev pub values : List Field → List ℤ
 values [] = []
-values (f ∷ fs) = f .value ∷ values fs
+values (f ∷ fs) = numberOf (f .value) ∷ values fs
+
+-- the index of the first field that is too wide, where it is below 5, else 5; the first of these fields has the index i
+unfoldable pub wideFrom : ℕ → List Field → ℕ
+wideFrom i [] = 5
+wideFrom i (f ∷ fs) = pick (both (isWide (f .value)) (ltb i 5)) i (wideFrom (i + 1) fs)
 
 abbrev pub starts : List Field → List ℕ
 starts [] = []
@@ -53,12 +61,12 @@ zeros = pos 0 ∷ pos 0 ∷ pos 0 ∷ pos 0 ∷ pos 0 ∷ []
 
 -- a segment of which a value broke
 abbrev pub brokenAt : Ending → ℕ → Segment
-brokenAt end at = record { end = end; nums = zeros; count = 0; next = at }
+brokenAt end at = record { end = end; nums = zeros; wide = 5; count = 0; next = at }
 
--- the first five fields, 0 where there are fewer, and how many there are in truth
+-- the first five fields, 0 where there are fewer, the first of them that is too wide, and how many there are in truth
 abbrev pub segmentOf : Fields → Segment
 segmentOf (whole fs next) =
-    record { end = Ending.Whole; nums = take 5 (values fs ++ zeros); count = length fs; next = next }
+    record { end = Ending.Whole; nums = take 5 (values fs ++ zeros); wide = wideFrom 0 fs; count = length fs; next = next }
 segmentOf (leftover at) = brokenAt (Ending.Leftover at) at
 segmentOf (overflow at) = brokenAt (Ending.Overflow at) at
 

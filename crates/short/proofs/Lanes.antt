@@ -4,7 +4,7 @@ use mathlib.Core.Path.{_≡_, sym, _∙_, ap, subst}
 use mathlib.Core.Bool.{Bool, true, false}
 use Prim.Native.Nat.{ℕ, _+_, _-_, _*_, _/_, _%_, _^_, _<_, _≤_}
 use native.Mathlib.Omega.{arith}
-use lib.Bits.{bitAnd}
+use lib.Bits.{bitAnd, bitOr, bitXor, or-lt, xor-lt}
 use lib.Dec.{T, eqb, ltb, leb, eqb→eq, ltb→lt, leb→le}
 use borrow.Author.Tests.{eq-eqb}
 use Rattle.list.specs.Pick.{pick}
@@ -13,7 +13,7 @@ use Rattle.digits.specs.Digits.{digitOf, isDelim}
 use Rattle.digits.specs.Tables.{shortOf, stepOf, word}
 use Rattle.digits.proofs.Below as below
 use Rattle.digits.proofs.Below.{both-left, both-right}
-use Rattle.digits.proofs.Words.{and-lanes, add-word, sub-word, mul-word, zeros, none-high}
+use Rattle.digits.proofs.Words.{and-lanes, or-lanes, xor-lanes, add-word, sub-word, mul-word, zeros, none-high}
 use Rattle.digits.proofs.Words as words
 use Rattle.digits.proofs.Shorts as short
 use Rattle.short.specs.Short.{Bytes, Ones, Read, Stepping}
@@ -47,20 +47,30 @@ lane x h =
       even = eqb→eq _ _ (both-right (leb (twelve x) x) (eqb (twelve x) (2 * (twelve x / 2))) q);
     }
 
+-- the highest bit is set where v is 26 or more, and where it is 1
+abbrev tested : ℕ → ℕ
+tested v = bitOr (v + 102) (128 - bitXor v 1)
+
+flipped : (v : ℕ) → v < 128 → bitXor v 1 ≤ 127
+flipped v h = omega (arith, xor-lt 7 v 1 h (omega arith))
+
+tested-small : (v : ℕ) → v < 128 → tested v < 256
+tested-small v h = or-lt 8 (v + 102) (128 - bitXor v 1) (omega arith) (omega arith)
+
 one-test : ℕ → Bool
 one-test x =
-    pick (eqb (bitAnd (x - twelve x + 102) 128) 0) (both (eqb (x - twelve x + twelve x / 2) (digitOf (x + 65))) (ltb (shortOf (x + 65)) 32)) true
+    pick (eqb (bitAnd (tested (x - twelve x)) 128) 0) (both (eqb (x - twelve x + twelve x / 2) (digitOf (x + 65))) (ltb (shortOf (x + 65)) 32)) true
 
 record One (x : ℕ) : Type 0 where
   digit : x - twelve x + twelve x / 2 ≡ digitOf (x + 65)
   short : shortOf (x + 65) < 32
 
-one : (x : ℕ) → x < 128 → bitAnd (x - twelve x + 102) 128 ≡ 0 → One x
+one : (x : ℕ) → x < 128 → bitAnd (tested (x - twelve x)) 128 ≡ 0 → One x
 unfolding one-test digitOf shortOf isDelim
 one x h e =
     let d = eqb (x - twelve x + twelve x / 2) (digitOf (x + 65)) in
     let s = ltb (shortOf (x + 65)) 32 in
-    let p : T (both d s) = given (eqb (bitAnd (x - twelve x + 102) 128) 0) (both d s) (eq-eqb (bitAnd (x - twelve x + 102) 128) 0 e) (below.at one-test 128 tt x h) in
+    let p : T (both d s) = given (eqb (bitAnd (tested (x - twelve x)) 128) 0) (both d s) (eq-eqb (bitAnd (tested (x - twelve x)) 128) 0 e) (below.at one-test 128 tt x h) in
     record { digit = eqb→eq _ _ (both-left d s p); short = ltb→lt _ _ (both-right d s p) }
 
 -- ---- four bytes
@@ -70,6 +80,26 @@ eighths p q r s = omega arith
 
 halves : (p q r s : ℕ) → word (2 * p) (2 * q) (2 * r) (2 * s) / 2 ≡ word p q r s
 halves p q r s = omega arith
+
+module _ (a b c d : ℕ) (la : a < 128) (lb : b < 128) (lc : c < 128) (ld : d < 128) where
+  flips-are : bitXor (word a b c d) 16843009 ≡ word (bitXor a 1) (bitXor b 1) (bitXor c 1) (bitXor d 1)
+  flips-are = xor-lanes a b c d 1 1 1 1 (omega arith) (omega arith) (omega arith) (omega arith) (omega arith) (omega arith)
+
+  flips-fit : bitXor (word a b c d) 16843009 ≤ 2139062143
+  flips-fit = omega (arith, flips-are, flipped a la, flipped b lb, flipped c lc, flipped d ld)
+
+  tests-are : bitAnd (bitOr (word a b c d + 1717986918) (2155905152 - bitXor (word a b c d) 16843009)) 2155905152
+      ≡ word (bitAnd (tested a) 128) (bitAnd (tested b) 128) (bitAnd (tested c) 128) (bitAnd (tested d) 128)
+  tests-are =
+      rw (
+        add-word a b c d 102 102 102 102,
+        flips-are,
+        sub-word 128 128 128 128 (bitXor a 1) (bitXor b 1) (bitXor c 1) (bitXor d 1)
+            (omega (arith, flipped a la)) (omega (arith, flipped b lb)) (omega (arith, flipped c lc)) (omega (arith, flipped d ld)),
+        or-lanes (a + 102) (b + 102) (c + 102) (d + 102) (128 - bitXor a 1) (128 - bitXor b 1) (128 - bitXor c 1) (128 - bitXor d 1)
+            (omega arith) (omega arith) (omega arith) (omega arith) (omega arith) (omega arith),
+      )
+      (and-lanes (tested a) (tested b) (tested c) (tested d) 128 128 128 128 (tested-small a la) (tested-small b lb) (tested-small c lc) (omega arith) (omega arith) (omega arith))
 
 -- the bytes of a number below 2^32
 pub bytes : (w : ℕ) → w < 2 ^ 32 → Bytes 256 w
@@ -135,6 +165,11 @@ module _ (t : ℕ) (x : Bytes 128 t) where
     left-is : t - k ≡ word (x .a - twelve (x .a)) (x .b - twelve (x .b)) (x .c - twelve (x .c)) (x .d - twelve (x .d))
     left-is = rw (x .is, k-is) (sub-word (x .a) (x .b) (x .c) (x .d) _ _ _ _ (A .less) (B .less) (C .less) (D .less))
 
+    pub flip-fits : bitXor (t - k) 16843009 ≤ 2139062143
+    flip-fits =
+        rw left-is
+        (flips-fit (x .a - twelve (x .a)) (x .b - twelve (x .b)) (x .c - twelve (x .c)) (x .d - twelve (x .d)) (omega (arith, x .la)) (omega (arith, x .lb)) (omega (arith, x .lc)) (omega (arith, x .ld)))
+
     digits-are : t - k + k / 2 ≡ word (x .a - twelve (x .a) + twelve (x .a) / 2) (x .b - twelve (x .b) + twelve (x .b) / 2)
         (x .c - twelve (x .c) + twelve (x .c) / 2) (x .d - twelve (x .d) + twelve (x .d) / 2)
     digits-are =
@@ -147,14 +182,14 @@ module _ (t : ℕ) (x : Bytes 128 t) where
         half-is : k / 2 ≡ word (twelve (x .a) / 2) (twelve (x .b) / 2) (twelve (x .c) / 2) (twelve (x .d) / 2)
         half-is = ap (λ (n : ℕ). n / 2) k-is ∙ by _ _ _ _ _ _ _ _ (A .even) (B .even) (C .even) (D .even)
 
-    over-is : bitAnd (t - k + 1717986918) 2155905152
-        ≡ word (bitAnd (x .a - twelve (x .a) + 102) 128) (bitAnd (x .b - twelve (x .b) + 102) 128) (bitAnd (x .c - twelve (x .c) + 102) 128) (bitAnd (x .d - twelve (x .d) + 102) 128)
+    over-is : bitAnd (bitOr (t - k + 1717986918) (2155905152 - bitXor (t - k) 16843009)) 2155905152
+        ≡ word (bitAnd (tested (x .a - twelve (x .a))) 128) (bitAnd (tested (x .b - twelve (x .b))) 128)
+        (bitAnd (tested (x .c - twelve (x .c))) 128) (bitAnd (tested (x .d - twelve (x .d))) 128)
     over-is =
-        ap (λ (n : ℕ). bitAnd (n + 1717986918) 2155905152) left-is
-        ∙ ap (λ (n : ℕ). bitAnd n 2155905152) (add-word (x .a - twelve (x .a)) (x .b - twelve (x .b)) (x .c - twelve (x .c)) (x .d - twelve (x .d)) 102 102 102 102)
-        ∙ and-lanes (x .a - twelve (x .a) + 102) (x .b - twelve (x .b) + 102) (x .c - twelve (x .c) + 102) (x .d - twelve (x .d) + 102) 128 128 128 128 (omega (arith, x .la)) (omega (arith, x .lb)) (omega (arith, x .lc)) (omega arith) (omega arith) (omega arith)
+        ap (λ (n : ℕ). bitAnd (bitOr (n + 1717986918) (2155905152 - bitXor n 16843009)) 2155905152) left-is
+        ∙ tests-are (x .a - twelve (x .a)) (x .b - twelve (x .b)) (x .c - twelve (x .c)) (x .d - twelve (x .d)) (omega (arith, x .la)) (omega (arith, x .lb)) (omega (arith, x .lc)) (omega (arith, x .ld))
 
-    pub ones : bitAnd (t - k + 1717986918) 2155905152 ≡ 0 → Ones t (t - k + k / 2)
+    pub ones : bitAnd (bitOr (t - k + 1717986918) (2155905152 - bitXor (t - k) 16843009)) 2155905152 ≡ 0 → Ones t (t - k + k / 2)
     ones e =
         let z = zeros _ _ _ _ (sym over-is ∙ e) in
         let a = one (x .a) (x .la) (z .0) in

@@ -27,6 +27,7 @@ pub struct Near {
 
 // The digits of four bytes, given what each has above `A`; 4,294,967,295 where one is not `A` to `Z` or `a` to `f`. The latter
 // have 32 to 37 above `A`: with 12 less they have to be below 26 as well, and with 6 less they are the digits 26 to 31.
+// `B`, minus zero, is left to the general way: the difference below has the highest bit of a byte exactly where v has 1.
 fn four_digits(t: u32) -> u32
     ensures { λ r. ⌜ (r < 4294967295 → Ones t r) ⌝ }
 {
@@ -36,7 +37,7 @@ fn four_digits(t: u32) -> u32
     }
     let twelves = (t & 0x20202020) / 8 * 3;
     let v = t - twelves;
-    let over = (v + 0x66666666) & 0x80808080;
+    let over = ((v + 0x66666666) | (0x80808080 - (v ^ 0x01010101))) & 0x80808080;
     if over != 0 {
         return 4294967295;
     }
@@ -53,7 +54,7 @@ fn four_steps(d: u32) -> u32
     half + 0x10101010 - 2 * (half & (odd * 15))
 }
 
-// The steps of four bytes; 0 where one has no value of one digit.
+// The steps of four bytes; 0 where one has no value of one digit, or minus zero.
 fn steps_of(w: u32) -> u32
     ensures { λ r. ⌜ Reading w r ⌝ }
 {

@@ -20,6 +20,7 @@ use Rattle.apply.specs.declared.About.{About}
 use Rattle.apply.specs.declared.Applied.{Applied}
 use Rattle.apply.proofs.Lands.{Lands, lands}
 use Rattle.apply.proofs.Points.{Pointed, Points, points}
+use Rattle.segment.proofs.TooWide.{wide-has}
 use Rattle.step.specs.declared.Step.{Step}
 use Rattle.step.specs.Step.{commaed, lined, offsetOf, stepped, segmentStep, stepFrom}
 
@@ -78,7 +79,7 @@ module _ (mode : Mode) (sources names : ℕ) where
   segment-lies s b bs d (leftover place) h = (s .at, here (s .at) b bs place d (h .0) (h .1))
   segment-lies s b bs d (overflow place) h = (s .at, here (s .at) b bs place d (h .0) (h .1))
   segment-lies s b bs d (whole fs next) h =
-      by (applied mode sources names s (segmentOf (whole fs next))) (points mode sources names (segmentOf (whole fs next)) s)
+      by (applied mode sources names s (segmentOf (whole fs next))) (points mode sources names (segmentOf (whole fs next)) (λ l. omega (arith, wide-has fs 0 l)) s)
     where
       by : (a : Applied) → Points (length fs) a → Lying s (b ∷ bs) (stepped (s .at) (starts fs) a)
       by (Applied.Took t s′) p = at-start (s .at) b bs d

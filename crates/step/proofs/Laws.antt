@@ -25,6 +25,7 @@ use Rattle.apply.specs.declared.State.{State}
 use Rattle.apply.specs.declared.About.{About}
 use Rattle.apply.specs.declared.Applied.{Applied}
 use Rattle.apply.proofs.Points.{Pointed, Points, points}
+use Rattle.segment.proofs.TooWide.{wide-has}
 use Rattle.step.specs.declared.Step.{Step}
 use Rattle.step.specs.Step.{commaed, lined, offsetOf, stepped, segmentStep, stepFrom, stepAt}
 use Rattle.step.specs.Ways.{segmentedAt, offsetIn, steppedIn, Passed}
@@ -81,7 +82,7 @@ module _ (mode : Mode) (sources names : ℕ) (text : List ℕ) (st : State) (g :
       by : (f : Fields) → fields ≡ f → segmentOf f .end ≡ Ending.Whole → r ≡ segmentedAt mode sources names text st
       by (whole fs next) q v =
           er ∙ ap (steppedIn text (st .at)) (ea ∙ ap (applied mode sources names st) (e ∙ ap segmentOf q))
-          ∙ step-is mode text (st .at) next fs q (applied mode sources names st (segmentOf (whole fs next))) (points mode sources names (segmentOf (whole fs next)) st)
+          ∙ step-is mode text (st .at) next fs q (applied mode sources names st (segmentOf (whole fs next))) (points mode sources names (segmentOf (whole fs next)) (λ l. omega (arith, wide-has fs 0 l)) st)
           ∙ sym (rw q)
       by (leftover place) q v = zero-one cc
       by (overflow place) q v = zero-one cc

@@ -11,9 +11,10 @@ use Rattle.digits.specs.Digits.{digitOf, isDelim}
 use Rattle.digits.specs.Tables.{shortOf, stepOf}
 use Rattle.value.specs.Value.{valueOf}
 use Rattle.value.specs.declared.Mode.{Mode}
+use Rattle.value.proofs.Standard.{value-plain}
 use Rattle.vlq.specs.declared.Vlq.the-variants.{End, Value}
 use Rattle.vlq.proofs.Steps.{at-delim, one-digit}
-use Rattle.segment.specs.Segment.{Field, whole, before, fieldsFrom, segmentOf, segmentAt}
+use Rattle.segment.specs.Segment.{Field, whole, before, fieldsFrom, wideFrom, segmentOf, segmentAt}
 use Rattle.segment.proofs.Reach.{answered, past}
 use Rattle.token.specs.Table.{noId}
 use Rattle.apply.specs.Apply.{state, shown, applied}
@@ -46,6 +47,13 @@ module _ (mode : Mode) (text : List ℕ) where
   abbrev listed : ℕ → ℕ → ℕ → List Field
   listed at i zero = []
   listed at i (suc n) = field (at + i) ∷ listed at (i + 1) n
+
+  narrow : (at n i j : ℕ) → ((m : ℕ) → m < j + n → One (getD text (at + m) 0)) → wideFrom i (listed at j n) ≡ 5
+  unfolding wideFrom field
+  narrow at zero i j o = refl
+  narrow at (suc n) i j o =
+      let d = o j (omega arith) in
+      rw (value-plain mode (digitOf (getD text (at + j) 0)) (omega (arith, d .small)) (d .plain)) (narrow at n (i + 1) (j + 1) (λ m l. o m (omega arith)))
 
   reads : (at n i : ℕ) → ((j : ℕ) → j < i + n → One (getD text (at + j) 0)) → isDelim (getD text (at + (i + n)) 0) ≡ true → at + (i + n) < length text
       → fieldsFrom mode 0 (at + i) (drop (at + i) text) ≡ whole (listed at i n) (at + (i + n))
@@ -80,8 +88,8 @@ module _ (mode : Mode) (text : List ℕ) where
     step-is : (j base x : ℕ) → j < k → x + 16 ≡ base + shortOf (getD text (at + j) 0) % 32 → x + 16 ≡ base + stepOf (digitOf (getD text (at + j) 0)) % 32
     step-is j base x l e = e ∙ ap (λ (y : ℕ). base + y % 32) (ones j (omega arith) .is)
 
-    small : (j : ℕ) → j < k → digitOf (getD text (at + j) 0) < 32
-    small j l = ones j (omega arith) .small
+    none-wide : wideFrom 0 (listed at 0 k) ≡ 5
+    none-wide = narrow at k 0 0 ones
 
   -- the fields that the running numbers n come from
   module _ (sources names : ℕ) (st : State) (n : Near) (h : st .at + 6 ≤ length text) (ns : Nears text st n) where
@@ -89,9 +97,9 @@ module _ (mode : Mode) (text : List ℕ) where
     at = st .at
 
     step-at : (k : ℕ) (s : Shaped text at k) (j base x : ℕ) → j < k → x < 2 ^ 32 → Stepped x base (shortOf (getD text (at + j) 0))
-        → (digitOf (getD text (at + j) 0) < 32) × (x + 16 ≡ base + stepOf (digitOf (getD text (at + j) 0)) % 32)
+        → One (getD text (at + j) 0) × (x + 16 ≡ base + stepOf (digitOf (getD text (at + j) 0)) % 32)
     unfolding at
-    step-at k s j base x l b e = (small at k s h j l, step-is at k s h j base x l (e b))
+    step-at k s j base x l b e = (ones at k s h j (omega arith), step-is at k s h j base x l (e b))
 
     col₀ : Stepped (n .«dst_col») (st .«dst_col») (shortOf (getD text (at + 0) 0))
     unfolding at
@@ -107,12 +115,12 @@ module _ (mode : Mode) (text : List ℕ) where
           let p₁ = step-at 4 s 1 (st .«source_id») (n .«source_id») (omega arith) (omega (arith, f .source)) (ns .source) in
           let p₂ = step-at 4 s 2 (st .«src_line») (n .«src_line») (omega arith) (f .line) (ns .line) in
           let p₃ = step-at 4 s 3 (st .«src_col») (n .«src_col») (omega arith) (f .scol) (ns .scol) in
-          takes-four mode sources names st (segmentOf (whole (listed (st .at) 0 4) (st .at + 4)))
-          (n .«dst_col») (sum-at mode (n .«dst_col») (st .«dst_col») _ (p₀ .0) (p₀ .1) (f .col))
+          takes-four mode sources names st (segmentOf (whole (listed (st .at) 0 4) (st .at + 4))) (none-wide (st .at) 4 s h)
+          (n .«dst_col») (sum-at mode (n .«dst_col») (st .«dst_col») _ (p₀ .0 .small) (p₀ .0 .plain) (p₀ .1) (f .col))
           (n .«source_id») (n .«src_line») (n .«src_col»)
-          (id-at mode (n .«source_id») (st .«source_id») _ (p₁ .0) (p₁ .1) sources (f .source))
-          (sum-at mode (n .«src_line») (st .«src_line») _ (p₂ .0) (p₂ .1) (f .line))
-          (sum-at mode (n .«src_col») (st .«src_col») _ (p₃ .0) (p₃ .1) (f .scol))
+          (id-at mode (n .«source_id») (st .«source_id») _ (p₁ .0 .small) (p₁ .0 .plain) (p₁ .1) sources (f .source))
+          (sum-at mode (n .«src_line») (st .«src_line») _ (p₂ .0 .small) (p₂ .0 .plain) (p₂ .1) (f .line))
+          (sum-at mode (n .«src_col») (st .«src_col») _ (p₃ .0 .small) (p₃ .0 .plain) (p₃ .1) (f .scol))
           refl
 
       agrees-four : shortStep st n 4 ≡ segmentedAt mode sources names text st
@@ -132,14 +140,14 @@ module _ (mode : Mode) (text : List ℕ) where
           let p₂ = step-at 5 s 2 (st .«src_line») (n .«src_line») (omega arith) (f .line) (ns .line) in
           let p₃ = step-at 5 s 3 (st .«src_col») (n .«src_col») (omega arith) (f .scol) (ns .scol) in
           let p₄ = step-at 5 s 4 (st .«name_id») (n .«name_id») (omega arith) (f .name) (ns .name) in
-          takes-five mode sources names st (segmentOf (whole (listed (st .at) 0 5) (st .at + 5)))
-          (n .«dst_col») (sum-at mode (n .«dst_col») (st .«dst_col») _ (p₀ .0) (p₀ .1) (f .col))
+          takes-five mode sources names st (segmentOf (whole (listed (st .at) 0 5) (st .at + 5))) (none-wide (st .at) 5 s h)
+          (n .«dst_col») (sum-at mode (n .«dst_col») (st .«dst_col») _ (p₀ .0 .small) (p₀ .0 .plain) (p₀ .1) (f .col))
           (n .«source_id») (n .«src_line») (n .«src_col»)
-          (id-at mode (n .«source_id») (st .«source_id») _ (p₁ .0) (p₁ .1) sources (f .source))
-          (sum-at mode (n .«src_line») (st .«src_line») _ (p₂ .0) (p₂ .1) (f .line))
-          (sum-at mode (n .«src_col») (st .«src_col») _ (p₃ .0) (p₃ .1) (f .scol))
+          (id-at mode (n .«source_id») (st .«source_id») _ (p₁ .0 .small) (p₁ .0 .plain) (p₁ .1) sources (f .source))
+          (sum-at mode (n .«src_line») (st .«src_line») _ (p₂ .0 .small) (p₂ .0 .plain) (p₂ .1) (f .line))
+          (sum-at mode (n .«src_col») (st .«src_col») _ (p₃ .0 .small) (p₃ .0 .plain) (p₃ .1) (f .scol))
           (n .«name_id»)
-          (name-at mode (n .«name_id») (st .«name_id») _ (p₄ .0) (p₄ .1) (f .name))
+          (name-at mode (n .«name_id») (st .«name_id») _ (p₄ .0 .small) (p₄ .0 .plain) (p₄ .1) (f .name))
           (f .named refl)
           refl
 

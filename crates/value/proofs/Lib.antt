@@ -1,2 +1,3 @@
-pub mod Range
 pub mod Signed
+pub mod Standard
+pub mod Range

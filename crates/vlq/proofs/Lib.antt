@@ -3,3 +3,4 @@ pub mod Steps
 pub mod Lanes
 pub mod Values
 pub mod Several
+pub mod Runs

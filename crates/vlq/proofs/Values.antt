@@ -11,7 +11,7 @@ use lib.ListN.{length, drop, length-drop}
 use borrow.Author.Tests.{ltb-true}
 use Rattle.list.specs.Pick.{pick}
 use Rattle.digits.specs.Digits.{digitOf, isDelim}
-use Rattle.value.specs.Value.{valueOf}
+use Rattle.value.specs.Value.{valueOf, numberOf}
 use Rattle.value.specs.declared.Mode.{Mode}
 use Rattle.value.proofs.Range.{value-range}
 use Rattle.vlq.proofs.Places.{place-next}
@@ -47,7 +47,7 @@ tail-size (b ∷ bs) left n len e =
 pub record Read (s : List ℕ) (at bits lost next : ℕ) : Type 0 where
   pub past : at < next
   pub within : next ≤ length s
-  pub small : (mode : Mode) → natAbs (valueOf mode bits lost) ≤ 2 ^ 62
+  pub small : (mode : Mode) → natAbs (numberOf (valueOf mode bits lost)) ≤ 2 ^ 62
 
 answered : (s : List ℕ) (at : ℕ) (t : Digits) (bits lost next : ℕ) → digitsFrom 13 (drop at s) ≡ t → vlqFrom at t ≡ Value bits lost next → Read s at bits lost next
 answered s at (cut k) bits lost next q e = absurd (zero-one cc)

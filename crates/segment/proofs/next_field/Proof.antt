@@ -1,7 +1,9 @@
 -- `segment::next_field` meets its contract. Assumes nothing.
 use mathlib.Core.Path.{ap, _∙_}
-use Prim.Native.Nat.{ℕ}
+use Prim.Native.Nat.{ℕ, _+_}
 use Rattle.value.specs.Value.{valueOf}
+use Rattle.value.specs.declared.Judged.{Judged}
+use Rattle.segment.specs.Fields.{judgedTo}
 use Rattle.segment.proofs.OneDigit.{capital-field}
 use borrow.Author.Needs.{needs}
 use Rattle.segment.proofs.next_field.Statement.{statement}
@@ -19,13 +21,19 @@ wide-requires c κs = search needs
 value-of-requires : tie.Need-value-of-requires
 value-of-requires c κs = search needs
 
-add-t12 : tie.Need-add-t12
-add-t12 c = search needs
+add-judged : tie.Need-add-judged
+add-judged c = search needs
+
+judged-requires : tie.Need-judged-requires
+judged-requires c κs = search needs
 
 returns : tie.Need-returns
 returns c =
-    capital-field (c .before .before .before .before .before .before .before .args .mode) _ (c .before .before .before .before .before .before .before .args .at) _ (c .before .before .before .before .before .if1 .taken) (c .before .before .before .wrapping-sub-u8 .ensures) (c .before .before .if2 .taken) _
-    (c .value-of .ensures ∙ ap (λ (n : ℕ). valueOf (c .before .before .before .before .before .before .before .args .mode) n 0) (c .before .wide .ensures))
+    let args = c .before .before .before .before .before .before .before .before .args in
+    c .judged .ensures
+    ∙ ap (λ (x : Judged). judgedTo x (args .at + 1))
+      (c .before .value-of .ensures ∙ ap (λ (n : ℕ). valueOf (args .mode) n 0) (c .before .before .wide .ensures))
+    ∙ capital-field (args .mode) _ (args .at) _ (c .before .before .before .before .before .before .if1 .taken) (c .before .before .before .before .wrapping-sub-u8 .ensures) (c .before .before .before .if2 .taken)
 
 next-value-requires : tie.Need-next-value-requires
 next-value-requires c κs = search needs
@@ -41,7 +49,8 @@ next-field-spec =
     wrapping-sub-u8-requires
     wide-requires
     value-of-requires
-    add-t12
+    add-judged
+    judged-requires
     returns
     next-value-requires
     returns-2)

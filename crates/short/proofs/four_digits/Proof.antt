@@ -2,7 +2,7 @@
 use mathlib.Core.Path.{refl}
 use native.Mathlib.Omega.{arith}
 use lib.Bits.{and-le-l, and-le-r}
-use Rattle.short.proofs.Lanes.{narrow, below-half, ones}
+use Rattle.short.proofs.Lanes.{narrow, below-half, flip-fits, ones}
 use Rattle.short.proofs.four_digits.Statement.{statement}
 use Rattle.short.proofs.four_digits.Tie as tie
 
@@ -17,6 +17,9 @@ sub-v c = omega (arith, and-le-l (c .before .args .t) 538976288)
 
 add-over : tie.Need-add-over
 add-over c = omega (arith, below-half (c .before .args .t) (narrow (c .before .args .t) (omega (arith, c .before .fits .t)) (c .if1 .left)))
+
+sub-over : tie.Need-sub-over
+sub-over c = omega (arith, flip-fits (c .before .args .t) (narrow (c .before .args .t) (omega (arith, c .before .fits .t)) (c .if1 .left)) _ refl)
 
 returns-2 : tie.Need-returns-2
 returns-2 c = λ h. absurd (omega arith)
@@ -35,6 +38,7 @@ four-digits-spec =
     mul-twelves
     sub-v
     add-over
+    sub-over
     returns-2
     add-result
     returns-3)

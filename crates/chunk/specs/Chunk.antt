@@ -43,6 +43,10 @@ abbrev pub chunkOf : ℕ → ℕ → ℕ → ℕ → ℕ → ℕ → ℕ → ℕ
 chunkOf s e l c m d n o =
     record { start = s; end = e; «prev_dst_line» = l; «prev_dst_col» = c; «prev_src_line» = m; «prev_src_col» = d; «prev_name_id» = n; «prev_source_id» = o }
 
+-- a chunk that nothing stands before
+abbrev pub fresh : ℕ → ℕ → TokenChunk
+fresh start end = chunkOf start end 0 0 0 0 0 0
+
 -- with another start and end
 abbrev pub withEnds : ℕ → ℕ → TokenChunk → TokenChunk
 withEnds start end p =

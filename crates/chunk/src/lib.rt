@@ -13,7 +13,7 @@ ghost use Rattle.chunk.specs.Chunk.{lead, baseOf, spelled, bytesOf, afte
 ghost use Rattle.chunk.specs.Parts.{LeadSize, NameSize, sourceOf, SourceSize};
 
 // The column that a token's column is counted from.
-fn base_of(p: TokenChunk, t: Token) -> u32
+pub fn base_of(p: TokenChunk, t: Token) -> u32
     ensures { λ r. ⌜ r ≡ baseOf p t ⌝ }
 {
     if p.prev_dst_line == t.dst_line {

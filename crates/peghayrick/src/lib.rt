@@ -14,6 +14,7 @@ ghost use Rattle.decode.specs.Mapping.{Decodes};
 ghost use Rattle.table_size.specs.Size.{tableSize};
 ghost use Rattle.encode.specs.Encode.{Encodes};
 ghost use Rattle.premises.specs.Premises.{Decides};
+ghost use Rattle.checked_premises.specs.Checked.{DecidesChecked};
 ghost use Rattle.translate.specs.Translate.{Translates};
 ghost use Rattle.lookup.specs.Lookup.{Looks};
 ghost use Rattle.compose.specs.Compose.{mapsOf, Composes};
@@ -139,6 +140,14 @@ pub extern "C" fn pgk_meets_premises(table: &[u32], sources: u32, names: u32) ->
     ensures { λ r. ⌜ Goes (Decides (now (table .entry)) sources names) flag r ⌝ }
 {
     flag_of(premises::meets_premises(table, sources, names))
+}
+
+// 1 where it surely reads back in checked mode too, else 0.
+#[no_mangle]
+pub extern "C" fn pgk_meets_checked_premises(table: &[u32], sources: u32, names: u32) -> u64
+    ensures { λ r. ⌜ Goes (DecidesChecked (now (table .entry)) sources names) flag r ⌝ }
+{
+    flag_of(checked_premises::meets_checked_premises(table, sources, names))
 }
 
 // The decode that names no mode: lenient.

@@ -90,7 +90,7 @@ module _ (table : List ℕ) (sources names i line srcLine srcCol : ℕ) (p : Pas
     goes-on q l c el ec = record { is = step ∙ rw (← er, not-false r q, ← el, ← ec) }
 
 -- ---- every number of a lent table is one of 32 bits
-fits-all : (xs : List ℕ) → ((i : ℕ) → getD xs i 0 < 2 ^ 32) → fits32 xs ≡ true
+pub fits-all : (xs : List ℕ) → ((i : ℕ) → getD xs i 0 < 2 ^ 32) → fits32 xs ≡ true
 unfolding fits32
 fits-all [] h = refl
 fits-all (x ∷ xs) h = rw (lt-ltb x (2 ^ 32) (h 0)) (fits-all xs (λ i. h (suc i)))

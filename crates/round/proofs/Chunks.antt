@@ -19,9 +19,9 @@ use Rattle.token.specs.declared.TokenChunk.{TokenChunk}
 use Rattle.token.proofs.Laws.{length-tokens, tokens-add, tokens-none}
 use Rattle.encode.specs.declared.Encoded.{Encoded}
 use Rattle.chunk.proofs.Lists.{written-append, endOf-append}
-use Rattle.chunk.specs.Chunk.{withEnds, baseOf, fieldsOf, bytesOf, after, written, endOf, firstBack}
+use Rattle.chunk.specs.Chunk.{fresh, withEnds, baseOf, fieldsOf, bytesOf, after, written, endOf, firstBack}
 use Rattle.encode.specs.Encode.{tokensIn, bytesIn, nextChunk, encoded, Encodes}
-use Rattle.round.specs.Terms.{fresh, whole, Call, Called, Cut, joined, lastState, AllDone}
+use Rattle.round.specs.Terms.{whole, Call, Called, Cut, joined, lastState, AllDone}
 use Rattle.round.proofs.Round.{textOf}
 
 -- ---- lists

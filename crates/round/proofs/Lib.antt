@@ -2,9 +2,11 @@ pub mod Chunks
 pub mod Demand3
 pub mod Facts
 pub mod Fields
+pub mod Judged
 pub mod Lead
 pub mod Round
 pub mod Run
+pub mod Stops
 pub mod Sums
 pub mod Taken
 pub mod Value

@@ -15,12 +15,13 @@ use Rattle.token.specs.declared.Token.{Token}
 use Rattle.token.specs.declared.TokenChunk.{TokenChunk}
 use Rattle.value.specs.declared.Mode.{Mode}
 use Rattle.decode.specs.Mapping.{decoded}
-use Rattle.chunk.specs.Chunk.{fieldsOf, after, written, firstBack}
+use Rattle.chunk.specs.Chunk.{fresh, fieldsOf, after, written, firstBack}
 use Rattle.premises.specs.Premises.{idWithin, follows, follow, premises, decides, fits32, SoundTable}
-use Rattle.round.specs.Terms.{fresh, takes, takesEach, takesFrom, takesAll}
+use Rattle.checked_premises.specs.Checked.{takes, takesEach, takesFrom, takesAll}
 use Rattle.list.proofs.Pick.{both-true}
 use Rattle.round.proofs.Facts.{Held}
 use Rattle.round.proofs.Run.{run-back}
+use Rattle.round.proofs.Stops.{Outcome, run-stops}
 use Rattle.token.proofs.Whole.{flat-tokens}
 
 -- the text of a list of tokens, from the start; where the chunk starts and ends plays no part in it
@@ -39,19 +40,23 @@ pub back : (mode : Mode) (sources names room : ℕ) (ts : List Token) → Sound 
     → decoded mode sources names (textOf ts) room ≡ record { tokens = ts; code = Code.Done; offset = length (textOf ts) }
 back mode sources names room ts s k l = run-back mode sources names ts (textOf ts) room 0 0 (fresh 0 0) zeros-held (s .fits) (s .meets) k l refl
 
--- ---- each mode takes every value
-takes-each : (mode : Mode) (vs : List ℕ) → takesEach mode vs ≡ true
+pub refused : (sources names room : ℕ) (ts : List Token) → Sound sources names ts → takesAll Mode.Checked ts ≡ false → length ts ≤ room
+    → Outcome (fresh 0 0) ts (decoded Mode.Checked sources names (textOf ts) room)
+refused sources names room ts s k l = run-stops sources names ts (textOf ts) room 0 0 (fresh 0 0) zeros-held (s .fits) (s .meets) k l refl
+
+-- ---- lenient mode takes every value
+takes-each : (vs : List ℕ) → takesEach Mode.Lenient vs ≡ true
 unfolding takesEach takes
-takes-each mode [] = refl
-takes-each mode (v ∷ vs) = takes-each mode vs
+takes-each [] = refl
+takes-each (v ∷ vs) = takes-each vs
 
-takes-from : (mode : Mode) (p : TokenChunk) (ts : List Token) → takesFrom mode p ts ≡ true
+takes-from : (p : TokenChunk) (ts : List Token) → takesFrom Mode.Lenient p ts ≡ true
 unfolding takesFrom
-takes-from mode p [] = refl
-takes-from mode p (t ∷ ts) = rw (takes-each mode (fieldsOf p t)) (takes-from mode (after p t) ts)
+takes-from p [] = refl
+takes-from p (t ∷ ts) = rw (takes-each (fieldsOf p t)) (takes-from (after p t) ts)
 
-pub takes-all : (mode : Mode) (ts : List Token) → takesAll mode ts ≡ true
-takes-all mode ts = takes-from mode (fresh 0 0) ts
+pub takes-all : (ts : List Token) → takesAll Mode.Lenient ts ≡ true
+takes-all ts = takes-from (fresh 0 0) ts
 
 -- ---- the premises, where the counts grow
 both-of : (a b : Bool) → a ≡ true → b ≡ true → both a b ≡ true

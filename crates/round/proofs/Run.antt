@@ -18,18 +18,19 @@ use Rattle.digits.specs.Digits.{isDelim}
 use Rattle.value.specs.declared.Mode.{Mode}
 use Rattle.segment.specs.Segment.{Field, whole, starts, fieldsFrom, segmentOf}
 use Rattle.apply.specs.declared.State.{State}
+use Rattle.apply.specs.declared.Applied.{Applied}
 use Rattle.step.specs.declared.Step.{Step}
 use Rattle.apply.specs.Apply.{applied}
 use Rattle.step.specs.Step.{stepped, segmentStep, stepFrom, stepAt}
 use Rattle.decode.specs.Mapping.{tokenThen, run}
 use Rattle.chunk.specs.Chunk.{lead, baseOf, fieldsOf, spelled, bytesOf, after, written}
 use Rattle.premises.specs.Premises.{fits32}
-use Rattle.round.specs.Terms.{takesEach, takesFrom}
+use Rattle.checked_premises.specs.Checked.{takesEach, takesFrom}
 use Rattle.round.proofs.Value.{Head, head, head-append}
 use Rattle.round.proofs.Fields.{Ends, fieldsAt, fields-back}
 use Rattle.list.proofs.Pick.{both-true}
 use Rattle.round.proofs.Facts.{Fits, fits-token, Held, held-after, After, Meets, meets-after}
-use Rattle.round.proofs.Taken.{stateOf, ledTo, taken}
+use Rattle.round.proofs.Taken.{stateOf, ledTo, readable, taken}
 use Rattle.round.proofs.Lead.{led, lead-ends}
 
 -- ---- one segment
@@ -51,19 +52,17 @@ unfolding spelled fieldsOf
 head-fields p t rest = head-append _ rest (head-append _ _ (head _))
 
 module _ (mode : Mode) (sources names : ℕ) where
-  module _ (p : TokenChunk) (t : Token) (h : Held p) (f : Fits t)
-      (w : After sources names p t)
-      (k : takesEach mode (fieldsOf p t) ≡ true) where
+  module _ (p : TokenChunk) (t : Token) (h : Held p) (f : Fits t) (w : After sources names p t) where
+    -- the fields, wherever they stand
     step-fields : (at : ℕ) (rest : List ℕ) → Ends rest
         → stepFrom mode sources names (ledTo p t at) (spelled (fieldsOf p t) ++ rest)
-        ≡ Step.Put t at (stateOf (after p t) (at + length (spelled (fieldsOf p t))))
+        ≡ stepped at (starts (fieldsAt mode at (fieldsOf p t)))
+          (applied mode sources names (ledTo p t at) (segmentOf (whole (fieldsAt mode at (fieldsOf p t)) (at + length (spelled (fieldsOf p t))))))
     step-fields at rest z =
         let d = head-fields p t rest in
-        let q = taken p t mode sources names h f w k at (at + length (spelled (fieldsOf p t))) in
-        let e = fields-back mode at (fieldsOf p t) rest (q .1) z in
+        let e = fields-back mode at (fieldsOf p t) rest (readable p t h f .0) z in
         rw (d .is)
-        (segment-begins mode sources names (ledTo p t at) (d .b) (d .bs) (fieldsAt mode at (fieldsOf p t)) (at + length (spelled (fieldsOf p t))) (d .delim) (rw (d .is) at e)
-        ∙ rw (q .0))
+        (segment-begins mode sources names (ledTo p t at) (d .b) (d .bs) (fieldsAt mode at (fieldsOf p t)) (at + length (spelled (fieldsOf p t))) (d .delim) (rw (d .is) at e))
 
     step-lead : (first : Bool) (at : ℕ) (rest : List ℕ)
         → stepFrom mode sources names (stateOf p at) (lead first (p .«prev_dst_line») (t .«dst_line») ++ rest)
@@ -73,21 +72,32 @@ module _ (mode : Mode) (sources names : ℕ) where
         led mode sources names (p .«prev_src_line») (p .«prev_src_col») (p .«prev_source_id») (p .«prev_name_id») first (p .«prev_dst_line») (t .«dst_line»)
         (p .«prev_dst_col») at rest (w .forth) (f .line)
 
-    step-token : (first : Bool) (at : ℕ) (rest : List ℕ) → Ends rest
+    -- the token's bytes: a is what the fields do
+    pub step-bytes : (first : Bool) (at : ℕ) (rest : List ℕ) → Ends rest → (a : Applied)
+        → applied mode sources names (ledTo p t (at + length (lead first (p .«prev_dst_line») (t .«dst_line»))))
+          (segmentOf (whole (fieldsAt mode (at + length (lead first (p .«prev_dst_line») (t .«dst_line»))) (fieldsOf p t)) (at + length (bytesOf first p t))))
+        ≡ a
         → stepFrom mode sources names (stateOf p at) (bytesOf first p t ++ rest)
-        ≡ Step.Put t (at + length (lead first (p .«prev_dst_line») (t .«dst_line»))) (stateOf (after p t) (at + length (bytesOf first p t)))
+        ≡ stepped (at + length (lead first (p .«prev_dst_line») (t .«dst_line»)))
+          (starts (fieldsAt mode (at + length (lead first (p .«prev_dst_line») (t .«dst_line»))) (fieldsOf p t))) a
     unfolding bytesOf
-    step-token first at rest z =
+    step-bytes first at rest z a e =
         let l : List ℕ = lead first (p .«prev_dst_line») (t .«dst_line») in
         let v : List ℕ = spelled (fieldsOf p t) in
         let n : at + length l + length v ≡ at + length (l ++ v) = simp length-append (omega arith) in
         ap (stepFrom mode sources names (stateOf p at)) (append-assoc l v rest)
         ∙ step-lead first at (v ++ rest)
         ∙ step-fields (at + length l) rest z
-        ∙ ap (λ (m : ℕ). Step.Put t (at + length l) (stateOf (after p t) m)) n
+        ∙ rw (n, e)
+
+    pub step-token : takesEach mode (fieldsOf p t) ≡ true → (first : Bool) (at : ℕ) (rest : List ℕ) → Ends rest
+        → stepFrom mode sources names (stateOf p at) (bytesOf first p t ++ rest)
+        ≡ Step.Put t (at + length (lead first (p .«prev_dst_line») (t .«dst_line»))) (stateOf (after p t) (at + length (bytesOf first p t)))
+    step-token k first at rest z =
+        step-bytes first at rest z _ (taken p t mode sources names h f w k (at + length (lead first (p .«prev_dst_line») (t .«dst_line»))) (at + length (bytesOf first p t)))
 
   -- what stands after a token
-  ends-next : (i : ℕ) (p : TokenChunk) (ts : List Token) → Meets sources names p ts → Ends (written (i + 1) p ts)
+  pub ends-next : (i : ℕ) (p : TokenChunk) (ts : List Token) → Meets sources names p ts → Ends (written (i + 1) p ts)
   unfolding written bytesOf
   ends-next i p [] w = tt
   ends-next i p (t ∷ ts) w =
@@ -98,11 +108,11 @@ module _ (mode : Mode) (sources names : ℕ) where
   unfolding takesFrom
   takes-after p t ts k = both-true (takesEach mode (fieldsOf p t)) (takesFrom mode (after p t) ts) k
 
-  fits-after : (t : Token) (ts : List Token) → fits32 (flat (t ∷ ts)) ≡ true → Fits t × (fits32 (flat ts) ≡ true)
+  pub fits-after : (t : Token) (ts : List Token) → fits32 (flat (t ∷ ts)) ≡ true → Fits t × (fits32 (flat ts) ≡ true)
   unfolding flat
   fits-after t ts f = fits-token t (flat ts) f
 
-  run-put : (text : List ℕ) (room : ℕ) (s s′ : State) (t : Token) (begin : ℕ) → stepAt mode sources names text s ≡ Step.Put t begin s′
+  pub run-put : (text : List ℕ) (room : ℕ) (s s′ : State) (t : Token) (begin : ℕ) → stepAt mode sources names text s ≡ Step.Put t begin s′
       → run mode sources names text (suc room) s ≡ tokenThen t (run mode sources names text room s′)
   unfolding run
   run-put text room s s′ t begin e = rw e

@@ -6,19 +6,24 @@ use Prim.Native.Nat.{ℕ, suc, _+_, _-_, _*_, _/_, _%_, _^_, _<_, _≤_}
 use native.Mathlib.Nat.{mod-eq-of-lt, div-eq-of-lt}
 use native.Mathlib.Omega.{arith}
 use lib.IntN.{ℤ, pos, negℤ, _+ℤ_}
-use lib.Dec.{ltb}
+use lib.Dec.{leb, ltb}
 use lib.ListN.{length}
-use borrow.Author.Tests.{le-ltb, eq-eqb, ne-eqb, ltb-true, ltb-false}
+use borrow.Author.Tests.{le-ltb, eq-eqb, ne-eqb, ltb-true, ltb-false, leb-true, leb-false, not-true, not-false}
 use Rattle.digits.specs.Digits.{isDelim}
-use Rattle.value.specs.Value.{signOf, valueOf}
+use Rattle.value.specs.Standard.{tooWide, signed}
+use Rattle.value.specs.Value.{signOf, valueOf, numberOf}
 use Rattle.value.specs.declared.Mode.{Mode}
-use Rattle.value.proofs.Range.{value-small}
+use Rattle.value.specs.declared.Mode.the-variants.{Lenient, Checked}
+use Rattle.value.specs.declared.Judged.{Judged}
+use Rattle.value.specs.declared.Judged.the-variants.{Is, Wide}
+use Rattle.value.proofs.Signed.{asSigned-low}
+use Rattle.value.proofs.Standard.{wide, value-plain}
 use Rattle.vlq.specs.Vlq.{vlqOf}
 use Rattle.vlq.specs.declared.Vlq.the-variants.{Value}
 use Rattle.vlq_write.specs.Write.{vlqValue, writeOf}
 use Rattle.vlq_write.proofs.Back.{starts, stands}
 use Rattle.vlq_write.proofs.Values as Written
-use Rattle.round.specs.Terms.{takes}
+use Rattle.checked_premises.specs.Checked.{takes}
 
 -- the bytes begin, with a byte that is no delimiter
 pub record Head (l : List ℕ) : Type 0 where
@@ -66,10 +71,28 @@ step-by true a b e =
     rw e (back-down a b (b - a - 1) (omega arith))
 step-by false a b e = rw e (back-up a b (ltb-false a b e))
 
--- a value that the mode takes is what its bits say
-taken : (mode : Mode) (n : ℕ) → takes mode n ≡ true → n < 2 ^ 33 → valueOf mode n 0 ≡ signOf (pos n)
-taken mode n k h = value-small mode n 0 (omega arith)
+-- no step is written as minus zero
+never-one : (t : Bool) (a b : ℕ) → ltb a b ≡ t → vlqValue a b ≡ 1 → ⊥
+unfolding vlqValue
+never-one true a b e h = omega (arith, rw e at h, ltb-true a b e)
+never-one false a b e h = omega (arith, rw e at h)
 
-pub step-back : (mode : Mode) (a b : ℕ) → a < 2 ^ 32 → b < 2 ^ 32 → takes mode (vlqValue a b) ≡ true → pos b +ℤ valueOf mode (vlqValue a b) 0 ≡ pos a
-step-back mode a b ha hb k =
-    ap (λ (z : ℤ). pos b +ℤ z) (taken mode (vlqValue a b) k (Written.value-small a b ha hb)) ∙ step-by (ltb a b) a b refl
+-- a value that the mode takes
+taken : (mode : Mode) (n : ℕ) → takes mode n ≡ true → n < 2 ^ 33 → (n ≡ 1 → ⊥) → valueOf mode n 0 ≡ Is (signOf (pos n))
+unfolding takes tooWide valueOf
+taken Lenient n k h m = ap (λ (z : ℤ). Is (signOf z)) (asSigned-low n (omega arith))
+taken Checked n k h m = value-plain Checked n (omega (arith, leb-false 2147483648 (n / 2) (not-true (leb 2147483648 (n / 2)) k))) m
+
+-- one that checked mode does not take
+pub off : (n : ℕ) → takes Checked n ≡ false → valueOf Checked n 0 ≡ Wide
+unfolding takes tooWide valueOf
+off n k =
+    let h = leb-true 2147483648 (n / 2) (not-false (leb 2147483648 (n / 2)) k) in
+    let z : n + 2 ^ 64 * 0 ≡ n = omega arith in ap signed z ∙ wide n (omega (arith, h))
+
+module _ (mode : Mode) (a b : ℕ) (ha : a < 2 ^ 32) (hb : b < 2 ^ 32) (k : takes mode (vlqValue a b) ≡ true) where
+  pub value-is : valueOf mode (vlqValue a b) 0 ≡ Is (signOf (pos (vlqValue a b)))
+  value-is = taken mode (vlqValue a b) k (Written.value-small a b ha hb) (never-one (ltb a b) a b refl)
+
+  pub step-back : pos b +ℤ numberOf (valueOf mode (vlqValue a b) 0) ≡ pos a
+  step-back = ap (λ (x : Judged). pos b +ℤ numberOf x) value-is ∙ step-by (ltb a b) a b refl

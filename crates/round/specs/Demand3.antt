@@ -8,11 +8,13 @@ use Prim.Native.Nat.{ℕ, _≤_}
 use lib.ListN.{length, take}
 use Rattle.code.specs.declared.Code.{Code}
 use Rattle.token.specs.Table.{badTable, tokensOf}
-use Rattle.chunk.specs.Chunk.{firstBack}
+use Rattle.chunk.specs.Chunk.{fresh, firstBack}
 use Rattle.encode.specs.declared.Encoded.{Encoded}
 use Rattle.encode.specs.Encode.{bytesIn, Encodes}
 use Rattle.premises.specs.Premises.{SoundTable, Decides}
-use Rattle.round.specs.Terms.{SameTable, fresh, whole, Call, Cut, joined, lastState, AllDone, ReadsBack}
+use Rattle.checked_premises.specs.Checked.{DecidesChecked}
+use Rattle.value.specs.declared.Mode.{Mode}
+use Rattle.round.specs.Terms.{SameTable, whole, Call, Cut, joined, lastState, AllDone, Gives, ReadsBack}
 
 -- each call is done, and bytes and end state are those of the one call
 pub record AsOne (ks : List Call) (e : Encoded) (out′ : List ℕ) : Type 0 where
@@ -44,6 +46,12 @@ abbrev pub SurelyReadsBack : Type 0
 SurelyReadsBack =
     (sources names : ℕ) (xs : List ℕ) (r : Bool) (ks : List Call) → Decides xs sources names r → r ≡ true → Cut xs (fresh 0 0) ks
     → AllDone ks × ReadsBack sources names xs (joined ks)
+
+-- where the test of both premises says yes, in checked mode too
+abbrev pub SurelyInBoth : Type 0
+SurelyInBoth =
+    (sources names : ℕ) (xs : List ℕ) (r : Bool) (ks : List Call) → DecidesChecked xs sources names r → r ≡ true → Cut xs (fresh 0 0) ks
+    → AllDone ks × (Gives Mode.Lenient sources names xs (joined ks) × Gives Mode.Checked sources names xs (joined ks))
 
 -- no two tables make one text, each cut as it likes, though each meets the premises with counts of its own
 abbrev pub OneText : Type 0

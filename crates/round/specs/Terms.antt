@@ -1,29 +1,26 @@
 -- docs/RULES.md, Demands: the terms in which demand 3 is said. Assumes nothing.
 use mathlib.Core.Path.{_≡_}
-use mathlib.Core.Bool.{Bool, true}
+use mathlib.Core.Bool.{true, false}
 use mathlib.Core.List.{List, [], _∷_, _++_}
-use Prim.Native.Nat.{ℕ, _≤_}
+use Prim.Native.Nat.{ℕ, _+_, _≤_}
 use lib.ListN.{length, take}
 use Rattle.list.specs.Memory.{onto}
-use Rattle.list.specs.Pick.{both}
+use Rattle.list.specs.Pick.{pick}
 use Rattle.code.specs.declared.Code.{Code}
-use Rattle.token.specs.Table.{places, tokensOf}
+use Rattle.token.specs.Table.{places, tokensOf, over}
 use Rattle.token.specs.declared.Token.{Token}
 use Rattle.token.specs.declared.TokenChunk.{TokenChunk}
 use Rattle.value.specs.declared.Mode.{Mode}
 use Rattle.decode.specs.declared.Decoded.{Decoded}
 use Rattle.decode.specs.Mapping.{Decodes}
-use Rattle.chunk.specs.Chunk.{chunkOf, withEnds, fieldsOf, after}
+use Rattle.chunk.specs.Chunk.{fresh, withEnds, fieldsOf, endOf}
 use Rattle.encode.specs.declared.Encoded.{Encoded}
 use Rattle.encode.specs.Encode.{bytesIn, Encodes}
+use Rattle.checked_premises.specs.Checked.{takes, takesEach, takesFrom, takesAll}
 
 -- when tables count as the same
 abbrev pub SameTable : List ℕ → List ℕ → Type 0
 SameTable a b = a ≡ b
-
--- a chunk that nothing stands before
-abbrev pub fresh : ℕ → ℕ → TokenChunk
-fresh start end = chunkOf start end 0 0 0 0 0 0
 
 -- the one chunk that is the whole table
 abbrev pub whole : List ℕ → TokenChunk
@@ -67,29 +64,41 @@ AllDone (k ∷ ks) = (k .answer .code ≡ Code.Done) × AllDone ks
 
 -- ---- what reads back
 
--- the mode takes a value that is written for what it is: each mode takes every value
-unfoldable pub takes : Mode → ℕ → Bool
-takes mode n = true
-
-unfoldable pub takesEach : Mode → List ℕ → Bool
-takesEach mode [] = true
-takesEach mode (v ∷ vs) = both (takes mode v) (takesEach mode vs)
-
--- and every value of the tokens after a state
-unfoldable pub takesFrom : Mode → TokenChunk → List Token → Bool
-takesFrom mode p [] = true
-takesFrom mode p (t ∷ ts) = both (takesEach mode (fieldsOf p t)) (takesFrom mode (after p t) ts)
-
-abbrev pub takesAll : Mode → List Token → Bool
-takesAll mode ts = takesFrom mode (fresh 0 0) ts
-
 -- decoded into any table with room for it, the text gives the table xs: all its tokens, and past them what was there before
 abbrev pub Gives : Mode → ℕ → ℕ → List ℕ → List ℕ → Type 0
 Gives mode sources names xs text =
     (table : List ℕ) (d : Decoded) (table′ : List ℕ) → length xs ≤ length table → Decodes mode sources names text table d table′
     → (d ≡ record { code = Code.Done; tokens = places (length xs); offset = length text }) × SameTable table′ (onto xs table)
 
--- in lenient mode, and in checked mode where that takes every value that is written
+-- the index of the first of these values that checked mode does not take
+unfoldable pub firstOff : List ℕ → ℕ
+firstOff [] = 0
+firstOff (v ∷ vs) = pick (takes Mode.Checked v) (firstOff vs + 1) 0
+
+-- among tokens after a state, t is the first that has a value which checked mode does not take
+pub record Stopped (p : TokenChunk) (ts before : List Token) (t : Token) : Type 0 where
+  pub rest : List Token
+  pub split : ts ≡ before ++ (t ∷ rest)
+  pub taken : takesFrom Mode.Checked p before ≡ true
+  pub off : takesEach Mode.Checked (fieldsOf (endOf p before) t) ≡ false
+
+-- decoded in checked mode into any table with room for it, the text is refused at such a token, for its first such value: the tokens
+-- before it are written, and past them is what was there before
+pub record Refused (xs table : List ℕ) (d : Decoded) (table′ : List ℕ) : Type 0 where
+  pub before : List Token
+  pub t : Token
+  pub stopped : Stopped (fresh 0 0) (tokensOf xs) before t
+  pub code : d .code ≡ Code.WideValue (firstOff (fieldsOf (endOf (fresh 0 0) before) t))
+  pub tokens : d .tokens ≡ length before
+  pub wrote : table′ ≡ over before table
+
+abbrev pub Refuses : ℕ → ℕ → List ℕ → List ℕ → Type 0
+Refuses sources names xs text =
+    (table : List ℕ) (d : Decoded) (table′ : List ℕ) → length xs ≤ length table → Decodes Mode.Checked sources names text table d table′
+    → Refused xs table d table′
+
+-- in lenient mode; in checked mode exactly where that takes every value that is written, and else it is refused
 pub record ReadsBack (sources names : ℕ) (xs text : List ℕ) : Type 0 where
   pub lenient : Gives Mode.Lenient sources names xs text
   pub checked : takesAll Mode.Checked (tokensOf xs) ≡ true → Gives Mode.Checked sources names xs text
+  pub refused : takesAll Mode.Checked (tokensOf xs) ≡ false → Refuses sources names xs text

@@ -11,10 +11,10 @@ use Rattle.code.specs.declared.Code.{Code}
 use Rattle.token.specs.Table.{noId, tokenAt, tokensFrom}
 use Rattle.digits.specs.Digits.{charOf}
 use Rattle.vlq_write.specs.Write.{vlqValue, digitsOf}
-use Rattle.chunk.specs.Chunk.{chunkOf, lead, baseOf, fieldsOf, spelled, bytesOf, after, written, endOf, firstBack}
+use Rattle.chunk.specs.Chunk.{chunkOf, fresh, lead, baseOf, fieldsOf, spelled, bytesOf, after, written, endOf, firstBack}
 use Rattle.encode.specs.Encode.{bytesIn, givenBack, encoded}
 use Rattle.premises.specs.Premises.{follows, follow, decides}
-use Rattle.round.specs.Terms.{fresh, whole, Call, Cut, joined}
+use Rattle.round.specs.Terms.{whole, Call, Cut, joined}
 
 -- 0 0 2 3 0 none; 1 1 2 3 none none
 abbrev pair : List ℕ

@@ -11,7 +11,7 @@ use Rattle.value.specs.declared.Mode.{Mode}
 use Rattle.value.specs.declared.Mode.the-variants.{Lenient, Checked}
 use Rattle.value.specs.declared.Judged.the-variants.{Is, Wide}
 use Rattle.value.specs.Standard.{Run, unsigned, magnitude, tooWide, signed}
-use Rattle.value.specs.Value.{signOf, valueOf, numberOf}
+use Rattle.value.specs.Value.{signOf, valueOf, numberOf, isWide}
 use Rattle.value.proofs.Signed.{asSigned-low}
 
 pub wide : (u : ℕ) → 2 ^ 32 ≤ u → signed u ≡ Wide
@@ -36,6 +36,17 @@ value-plain Checked bits h n = ap signed (omega arith) ∙ plain bits h n
 pub value-standard : (r : Run) → valueOf Checked (unsigned r % 2 ^ 64) (unsigned r / 2 ^ 64) ≡ signed (unsigned r)
 unfolding valueOf
 value-standard r = ap signed (omega arith)
+
+-- a value is too wide exactly where the standard errs
+wide-by : (w m z : Bool) (n : ℕ) → isWide (pick w Wide (pick m (pick z (Is (negsuc 2147483647)) (Is (negℤ (pos n)))) (Is (pos n)))) ≡ w
+wide-by true m z n = refl
+wide-by false false z n = refl
+wide-by false true true n = refl
+wide-by false true false n = refl
+
+pub wide-is : (u : ℕ) → isWide (signed u) ≡ tooWide u
+unfolding signed
+wide-is u = wide-by (tooWide u) (eqb (u % 2) 1) (eqb (u / 2) 0) (u / 2)
 
 -- ---- how large a value is
 

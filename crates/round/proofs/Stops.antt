@@ -1,0 +1,100 @@
+-- The text of tokens of which checked mode does not take a value is refused at the first such token. Assumes nothing.
+use mathlib.Core.Path.{_≡_, refl, sym, _∙_, ap, subst}
+use mathlib.Core.Bool.{Bool, true, false}
+use mathlib.Core.List.{List, [], _∷_}
+use Prim.Native.Nat.{ℕ, zero, suc, _+_, _≤_}
+use native.Mathlib.Omega.{arith}
+use native.Mathlib.Nat.{not-suc-le-zero}
+use lib.Dec.{eqb}
+use lib.ListN.{length, drop}
+use lib.Seq.{drop-drop, drop-append-seam}
+use Rattle.list.specs.Pick.{both}
+use Rattle.code.specs.declared.Code.{Code}
+use Rattle.token.specs.Table.{flat}
+use Rattle.token.specs.declared.Token.{Token}
+use Rattle.token.specs.declared.TokenChunk.{TokenChunk}
+use Rattle.value.specs.declared.Mode.{Mode}
+use Rattle.apply.specs.declared.State.{State}
+use Rattle.step.specs.declared.Step.{Step}
+use Rattle.step.specs.Step.{stepFrom, stepAt}
+use Rattle.decode.specs.Mapping.{Out, stopped, tokenThen, run}
+use Rattle.chunk.specs.Chunk.{lead, fieldsOf, bytesOf, after, written, endOf}
+use Rattle.premises.specs.Premises.{fits32}
+use Rattle.checked_premises.specs.Checked.{takesEach, takesFrom}
+use Rattle.round.specs.Terms.{firstOff, Stopped}
+use Rattle.round.proofs.Facts.{Held, held-after, Meets, meets-after}
+use Rattle.round.proofs.Taken.{stateOf, readable, stops}
+use Rattle.round.proofs.Run.{step-bytes, step-token, ends-next, fits-after, run-put}
+
+-- the outcome of decoding tokens after a state
+pub record Outcome (p : TokenChunk) (ts : List Token) (o : Out) : Type 0 where
+  pub before : List Token
+  pub t : Token
+  pub first : Stopped p ts before t
+  pub code : o .code ≡ Code.WideValue (firstOff (fieldsOf (endOf p before) t))
+  pub tokens : o .tokens ≡ before
+
+-- a token that is taken, before it
+later : (p : TokenChunk) (t : Token) (ts : List Token) (o : Out) → takesEach Mode.Checked (fieldsOf p t) ≡ true → Outcome (after p t) ts o
+    → Outcome p (t ∷ ts) (tokenThen t o)
+unfolding takesFrom endOf
+later p t ts o k r =
+    record {
+      before = t ∷ r .before;
+      t = r .t;
+      first =
+          record {
+            rest = r .first .rest;
+            split = ap (λ (l : List Token). t ∷ l) (r .first .split);
+            taken = rw k (r .first .taken);
+            off = r .first .off;
+          };
+      code = r .code;
+      tokens = ap (λ (l : List Token). t ∷ l) (r .tokens);
+    }
+
+module _ (sources names : ℕ) where
+  run-refuse : (text : List ℕ) (room : ℕ) (s : State) (code : Code) (offset : ℕ) → stepAt Mode.Checked sources names text s ≡ Step.Refuse code offset
+      → run Mode.Checked sources names text (suc room) s ≡ stopped code offset
+  unfolding run
+  run-refuse text room s code offset e = rw e
+
+  pub run-stops : (ts : List Token) (text : List ℕ) (room i at : ℕ) (p : TokenChunk) → Held p → fits32 (flat ts) ≡ true
+      → Meets sources names p ts → takesFrom Mode.Checked p ts ≡ false → length ts ≤ room → drop at text ≡ written i p ts
+      → Outcome p ts (run Mode.Checked sources names text room (stateOf p at))
+  unfolding written takesFrom endOf
+  run-stops [] text room i at p h f w k l e = let z : _≡_ {A = ℕ} 0 1 = cc in absurd (omega (arith, z))
+  run-stops (t ∷ ts) text zero i at p h f w k l e = absurd (not-suc-le-zero l)
+  run-stops (t ∷ ts) text (suc room) i at p h f w k l e =
+      by (takesEach Mode.Checked (fieldsOf p t)) refl k
+      (λ q. run-stops ts text room (i + 1) (at + length b) (after p t) (held-after p t h (fits-after Mode.Checked sources names t ts f .0)) (fits-after Mode.Checked sources names t ts f .1)
+      (meets-after sources names p t ts w .1) q (omega arith) (sym (drop-drop (length b) at text) ∙ ap (drop (length b)) e ∙ drop-append-seam b r))
+    where
+      b : List ℕ
+      b = bytesOf (eqb i 0) p t
+
+      r : List ℕ
+      r = written (i + 1) (after p t) ts
+
+      by : (x : Bool) → takesEach Mode.Checked (fieldsOf p t) ≡ x → both x (takesFrom Mode.Checked (after p t) ts) ≡ false
+          → (takesFrom Mode.Checked (after p t) ts ≡ false → Outcome (after p t) ts (run Mode.Checked sources names text room (stateOf (after p t) (at + length b))))
+          → Outcome p (t ∷ ts) (run Mode.Checked sources names text (suc room) (stateOf p at))
+      by true q k ih =
+          let f₁ = fits-after Mode.Checked sources names t ts f .0 in
+          let m = meets-after sources names p t ts w in
+          subst (Outcome p (t ∷ ts))
+          (sym
+          (run-put Mode.Checked sources names text room (stateOf p at) (stateOf (after p t) (at + length b)) t (at + length (lead (eqb i 0) (p .«prev_dst_line») (t .«dst_line»)))
+          (ap (stepFrom Mode.Checked sources names (stateOf p at)) e
+          ∙ step-token Mode.Checked sources names p t h f₁ (m .0) q (eqb i 0) at r (ends-next Mode.Checked sources names i (after p t) ts (m .1)))))
+          (later p t ts (run Mode.Checked sources names text room (stateOf (after p t) (at + length b))) q (ih k))
+      by false q k ih =
+          let f₁ = fits-after Mode.Checked sources names t ts f .0 in
+          let m = meets-after sources names p t ts w in
+          subst (Outcome p (t ∷ ts))
+          (sym
+          (run-refuse text room (stateOf p at) _ _
+          (ap (stepFrom Mode.Checked sources names (stateOf p at)) e
+          ∙ step-bytes Mode.Checked sources names p t h f₁ (m .0) (eqb i 0) at r (ends-next Mode.Checked sources names i (after p t) ts (m .1)) _
+            (stops sources names _ (fieldsOf p t) _ _ q (readable p t h f₁ .1)))))
+          (record { before = []; t = t; first = record { rest = ts; split = refl; taken = refl; off = q }; code = refl; tokens = refl })

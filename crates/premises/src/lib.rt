@@ -16,7 +16,14 @@ fn id_within(count: u32, id: u32) -> bool
 }
 
 // The token may stand after a token on `line`, where the latest token with a source had the source position src_line, src_col.
-pub fn follows_ok(sources: u32, names: u32, line: u32, src_line: u32, src_col: u32, t: Token) -> bool
+pub fn follows_ok(
+    sources: u32,
+    names: u32,
+    line: u32,
+    src_line: u32,
+    src_col: u32,
+    t: Token,
+) -> bool
     ensures { λ r. ⌜ r ≡ follows sources names line «src_line» «src_col» t ⌝ }
 {
     if t.dst_line < line {

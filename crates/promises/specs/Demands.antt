@@ -11,6 +11,8 @@ use Prim.Native.Nat.{ℕ}
 use Rattle.token.specs.declared.Token.{Token}
 use Rattle.token.specs.declared.TokenChunk.{TokenChunk}
 use Rattle.value.specs.declared.Mode.{Mode}
+use Rattle.vlq.specs.Runs.{ByTheStandard}
+use Rattle.vlq.proofs.Runs as runs
 use Rattle.decode.specs.Mapping.{Decodes}
 use Rattle.decode.specs.Where.{Located}
 use Rattle.decode.proofs.Unique as decode
@@ -31,12 +33,14 @@ use Rattle.compose.specs.Compose.{Maps, Composes}
 use Rattle.compose.proofs.Unique as compose
 use Rattle.premises.specs.Premises.{Decides}
 use Rattle.premises.proofs.Unique as premises
+use Rattle.checked_premises.specs.Checked.{DecidesChecked}
+use Rattle.checked_premises.proofs.Unique as checked
 use Rattle.peghayrick.specs.declared.DecodedOut.{DecodedOut}
 use Rattle.peghayrick.specs.declared.EncodedOut.{EncodedOut}
 use Rattle.peghayrick.specs.declared.ComposedOut.{ComposedOut}
 use Rattle.peghayrick.specs.declared.NameOut.{NameOut}
 use Rattle.peghayrick.specs.Exports.{Goes, flag, decodedOut, encodedOut, foundOut, composedOut, nameOut}
-use Rattle.round.specs.Demand3.{ChunksJoin, WriteAndRead, CutAndRead, SurelyReadsBack, OneText}
+use Rattle.round.specs.Demand3.{ChunksJoin, WriteAndRead, CutAndRead, SurelyReadsBack, SurelyInBoth, OneText}
 use Rattle.round.proofs.Demand3 as round
 
 -- ---- demand 1: each exported entry has one answer, and leaves one content of what is lent
@@ -94,9 +98,19 @@ pub one-meets : (table : List ℕ) (sources names r s : ℕ) → Goes (Decides t
 one-meets table sources names r s a b =
     a .says ∙ ap flag (premises.one-answer table sources names (a .inner) (b .inner) (a .holds) (b .holds)) ∙ sym (b .says)
 
+-- pgk_meets_checked_premises
+pub one-meets-checked : (table : List ℕ) (sources names r s : ℕ)
+    → Goes (DecidesChecked table sources names) flag r → Goes (DecidesChecked table sources names) flag s → r ≡ s
+one-meets-checked table sources names r s a b =
+    a .says ∙ ap flag (checked.one-answer table sources names (a .inner) (b .inner) (a .holds) (b .holds)) ∙ sym (b .says)
+
 -- pgk_version and pgk_table_size answer by an equation; a table of the size that pgk_table_size answers is never full
 pub never-full : NeverFull
 never-full = size.never
+
+-- ---- demand 2: checked mode's values are those of ECMA-426, of every run of digits that is read
+pub by-the-standard : ByTheStandard
+by-the-standard = runs.by-the-standard
 
 -- ---- demand 3
 
@@ -105,7 +119,7 @@ pub chunks-join : ChunksJoin
 chunks-join = round.chunks-join
 
 -- a table that meets the premises, written whole, or in any chunks, and decoded is itself again: in lenient mode, and in checked mode
--- where that takes every value that is written
+-- exactly where that takes every value that is written; else checked mode refuses it for the first that it does not take
 pub write-and-read : WriteAndRead
 write-and-read = round.write-and-read
 
@@ -115,6 +129,10 @@ cut-and-read = round.cut-and-read
 -- so where `meets_premises` says yes, what is written surely reads back
 pub surely-reads-back : SurelyReadsBack
 surely-reads-back = round.surely-reads-back
+
+-- and where `meets_checked_premises` does, it reads back in both modes
+pub surely-in-both : SurelyInBoth
+surely-in-both = round.surely-in-both
 
 -- two different tables never make the same text, each cut as it likes
 pub one-text : OneText

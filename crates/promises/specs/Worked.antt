@@ -6,12 +6,14 @@ use Rattle.code.specs.declared.Code.{Code}
 use Rattle.token.specs.Table.{noId, token}
 use Rattle.token.specs.declared.Token.{Token}
 use Rattle.digits.specs.Digits.{digitOf, isDelim}
+use Rattle.value.specs.Standard.{tooWide, signed}
 use Rattle.value.specs.Value.{valueOf}
 use Rattle.value.specs.declared.Mode.{Mode}
+use Rattle.value.specs.declared.Judged.{Judged}
 use lib.IntN.{negsuc}
 use Rattle.vlq.specs.Vlq.{digitsFrom, vlqOf, vlqAt}
 use Rattle.vlq.specs.declared.Vlq.{Vlq}
-use Rattle.segment.specs.Segment.{fieldsFrom}
+use Rattle.segment.specs.Segment.{fieldsFrom, wideFrom}
 use Rattle.sums.specs.Sums.{reducedOf, sumOf, idOf, nameSumOf}
 use Rattle.apply.specs.Apply.{columned, mapped, named, four, five, counted, applied}
 use Rattle.step.specs.Step.{offsetOf, segmentStep, stepFrom}
@@ -58,14 +60,34 @@ worked =
     alike (65 ∷ 65 ∷ 65 ∷ []) 1 0 (out [] (Code.BadSegmentSize 3) 0) ∷
     -- `AAAAAA`: 3 with 6, at 0
     alike (65 ∷ 65 ∷ 65 ∷ 65 ∷ 65 ∷ 65 ∷ []) 1 1 (out [] (Code.BadSegmentSize 6) 0) ∷
-    -- `+/////H`: column 4294967295, both modes
-    alike (43 ∷ 47 ∷ 47 ∷ 47 ∷ 47 ∷ 47 ∷ 72 ∷ []) 0 0 (out (token 0 4294967295 0 0 noId noId ∷ []) Code.Done 7) ∷
+    -- `+/////D`: column 2147483647, both modes
+    alike (43 ∷ 47 ∷ 47 ∷ 47 ∷ 47 ∷ 47 ∷ 68 ∷ []) 0 0 (out (token 0 2147483647 0 0 noId noId ∷ []) Code.Done 7) ∷
+    -- `+/////H`: column 4294967295; checked 6 with 0, at 0
+    rowOf (43 ∷ 47 ∷ 47 ∷ 47 ∷ 47 ∷ 47 ∷ 72 ∷ []) 0 0 (out (token 0 4294967295 0 0 noId noId ∷ []) Code.Done 7) (out [] (Code.WideValue 0) 0) ∷
     -- six `g`, `I`: column 0; checked 6 with 0, at 0
     rowOf (103 ∷ 103 ∷ 103 ∷ 103 ∷ 103 ∷ 103 ∷ 73 ∷ []) 0 0 (out (token 0 0 0 0 noId noId ∷ []) Code.Done 7) (out [] (Code.WideValue 0) 0) ∷
     -- `AA`, six `g`, `IA`: 0 0 0 0 0 none; checked 6 with 2, at 2
     rowOf (65 ∷ 65 ∷ 103 ∷ 103 ∷ 103 ∷ 103 ∷ 103 ∷ 103 ∷ 73 ∷ 65 ∷ []) 1 0 (out (token 0 0 0 0 0 noId ∷ []) Code.Done 10) (out [] (Code.WideValue 2) 2) ∷
+    -- `D+/////HA`: 3 with 0, at 0; checked 6 with 1, at 1
+    rowOf (68 ∷ 43 ∷ 47 ∷ 47 ∷ 47 ∷ 47 ∷ 47 ∷ 72 ∷ 65 ∷ []) 1 0 (out [] (Code.BadSegmentSize 0) 0) (out [] (Code.WideValue 1) 1) ∷
+    -- `AAAAA+/////H`: 3 with 6, at 0: a sixth field is not judged
+    alike (65 ∷ 65 ∷ 65 ∷ 65 ∷ 65 ∷ 43 ∷ 47 ∷ 47 ∷ 47 ∷ 47 ∷ 47 ∷ 72 ∷ []) 1 1 (out [] (Code.BadSegmentSize 6) 0) ∷
+    -- `+/////D,+/////D,E`: columns 2147483647, 4294967294; then 7, checked 6 with 0; at 16
+    rowOf (43 ∷ 47 ∷ 47 ∷ 47 ∷ 47 ∷ 47 ∷ 68 ∷ 44 ∷ 43 ∷ 47 ∷ 47 ∷ 47 ∷ 47 ∷ 47 ∷ 68 ∷ 44 ∷ 69 ∷ []) 0 0 (out (token 0 2147483647 0 0 noId noId ∷ token 0 4294967294 0 0 noId noId ∷ []) Code.TableFull 16) (out (token 0 2147483647 0 0 noId noId ∷ token 0 4294967294 0 0 noId noId ∷ []) (Code.WideValue 0) 16) ∷
+    -- `B`: column 0; checked value -2147483648, so 3 with 0, at 0
+    rowOf (66 ∷ []) 0 0 (out (token 0 0 0 0 noId noId ∷ []) Code.Done 1) (out [] (Code.BadSegmentSize 0) 0) ∷
+    -- `hA`: the same
+    rowOf (104 ∷ 65 ∷ []) 0 0 (out (token 0 0 0 0 noId noId ∷ []) Code.Done 2) (out [] (Code.BadSegmentSize 0) 0) ∷
+    -- `AAAAB`: 0 0 0 0 0 0; checked 6 with 4, at 4
+    rowOf (65 ∷ 65 ∷ 65 ∷ 65 ∷ 66 ∷ []) 1 1 (out (token 0 0 0 0 0 0 ∷ []) Code.Done 5) (out [] (Code.WideValue 4) 4) ∷
+    -- `hgggggE`: value -2147483648, so 3 with 0; checked 6 with 0; at 0
+    rowOf (104 ∷ 103 ∷ 103 ∷ 103 ∷ 103 ∷ 103 ∷ 69 ∷ []) 0 0 (out [] (Code.BadSegmentSize 0) 0) (out [] (Code.WideValue 0) 0) ∷
     -- twelve `g`, `A`: column 0
     alike (103 ∷ 103 ∷ 103 ∷ 103 ∷ 103 ∷ 103 ∷ 103 ∷ 103 ∷ 103 ∷ 103 ∷ 103 ∷ 103 ∷ 65 ∷ []) 0 0 (out (token 0 0 0 0 noId noId ∷ []) Code.Done 13) ∷
+    -- twelve `g`, `Q`: column 0; checked 6 with 0, at 0
+    rowOf (103 ∷ 103 ∷ 103 ∷ 103 ∷ 103 ∷ 103 ∷ 103 ∷ 103 ∷ 103 ∷ 103 ∷ 103 ∷ 103 ∷ 81 ∷ []) 0 0 (out (token 0 0 0 0 noId noId ∷ []) Code.Done 13) (out [] (Code.WideValue 0) 0) ∷
+    -- `h`, eleven `g`, `Q`: the same
+    rowOf (104 ∷ 103 ∷ 103 ∷ 103 ∷ 103 ∷ 103 ∷ 103 ∷ 103 ∷ 103 ∷ 103 ∷ 103 ∷ 103 ∷ 81 ∷ []) 0 0 (out (token 0 0 0 0 noId noId ∷ []) Code.Done 13) (out [] (Code.WideValue 0) 0) ∷
     -- thirteen `g`, `A`: 2, at 13
     alike (103 ∷ 103 ∷ 103 ∷ 103 ∷ 103 ∷ 103 ∷ 103 ∷ 103 ∷ 103 ∷ 103 ∷ 103 ∷ 103 ∷ 103 ∷ 65 ∷ []) 0 0 (out [] Code.VlqOverflow 13) ∷
     -- thirteen `g`, `,`: 1, at 13
@@ -76,7 +98,7 @@ worked =
     alike (65 ∷ 44 ∷ 33 ∷ []) 0 0 (out (token 0 0 0 0 noId noId ∷ []) Code.VlqLeftover 3) ∷
     -- `!A`: value -15, so 3 with 0, at 0
     alike (33 ∷ 65 ∷ []) 0 0 (out [] (Code.BadSegmentSize 0) 0) ∷
-    -- `A,A,AAAA`, room for two: 0 0 0 0 none none twice; then 7, at 4
+    -- `A,A,AAAA`: 0 0 0 0 none none, twice; then 7, at 4
     alike (65 ∷ 44 ∷ 65 ∷ 44 ∷ 65 ∷ 65 ∷ 65 ∷ 65 ∷ []) 1 0 (out (token 0 0 0 0 noId noId ∷ token 0 0 0 0 noId noId ∷ []) Code.TableFull 4) ∷
     -- `AAEG;C`: 0 0 2 3 0 none; 1 1 2 3 none none
     alike (65 ∷ 65 ∷ 69 ∷ 71 ∷ 59 ∷ 67 ∷ []) 1 0 (out (token 0 0 2 3 0 noId ∷ token 1 1 2 3 noId noId ∷ []) Code.Done 6) ∷
@@ -91,11 +113,17 @@ Each [] = Unit {0}
 Each (r ∷ rs) = Holds r × Each rs
 
 pub worked-texts : Each worked
-unfolding digitOf isDelim valueOf digitsFrom vlqOf fieldsFrom reducedOf sumOf idOf nameSumOf columned mapped named four five counted applied offsetOf segmentStep stepFrom run
+unfolding digitOf isDelim tooWide signed valueOf digitsFrom vlqOf fieldsFrom wideFrom reducedOf sumOf idOf nameSumOf columned mapped named four five counted applied offsetOf segmentStep stepFrom run
 worked-texts =
-    ((refl, refl), ((refl, refl), ((refl, refl), ((refl, refl), ((refl, refl), ((refl, refl), ((refl, refl), ((refl, refl), ((refl, refl), ((refl, refl), ((refl, refl), ((refl, refl), ((refl, refl), ((refl, refl), ((refl, refl), ((refl, refl), ((refl, refl), ((refl, refl), ((refl, refl), ((refl, refl), ((refl, refl), ((refl, refl), tt))))))))))))))))))))))
+    ((refl, refl), ((refl, refl), ((refl, refl), ((refl, refl), ((refl, refl), ((refl, refl), ((refl, refl), ((refl, refl), ((refl, refl), ((refl, refl), ((refl, refl), ((refl, refl), ((refl, refl), ((refl, refl), ((refl, refl), ((refl, refl), ((refl, refl), ((refl, refl), ((refl, refl), ((refl, refl), ((refl, refl), ((refl, refl), ((refl, refl), ((refl, refl), ((refl, refl), ((refl, refl), ((refl, refl), ((refl, refl), ((refl, refl), ((refl, refl), ((refl, refl), ((refl, refl), tt))))))))))))))))))))))))))))))))
 
 -- `!A`: the bytes read as 63 and 0, so the number is 31, and the value -15 in both modes
-pub value-of-a-bad-byte : (vlqAt (33 ∷ 65 ∷ []) 0 ≡ Vlq.Value 31 0 2) × ((valueOf Mode.Lenient 31 0 ≡ negsuc 14) × (valueOf Mode.Checked 31 0 ≡ negsuc 14))
-unfolding digitOf isDelim valueOf digitsFrom vlqOf
+pub value-of-a-bad-byte : (vlqAt (33 ∷ 65 ∷ []) 0 ≡ Vlq.Value 31 0 2) × ((valueOf Mode.Lenient 31 0 ≡ Judged.Is (negsuc 14)) × (valueOf Mode.Checked 31 0 ≡ Judged.Is (negsuc 14)))
+unfolding digitOf isDelim tooWide signed valueOf digitsFrom vlqOf
 value-of-a-bad-byte = (refl, (refl, refl))
+
+-- `+/////D,C,B`, checked: minus zero is a step of -2147483648, and no offence by itself: columns 2147483647, 2147483648 and 0
+pub minus-zero-taken : decoded Mode.Checked 0 0 (43 ∷ 47 ∷ 47 ∷ 47 ∷ 47 ∷ 47 ∷ 68 ∷ 44 ∷ 67 ∷ 44 ∷ 66 ∷ []) 3
+    ≡ out (token 0 2147483647 0 0 noId noId ∷ token 0 2147483648 0 0 noId noId ∷ token 0 0 0 0 noId noId ∷ []) Code.Done 11
+unfolding digitOf isDelim tooWide signed valueOf digitsFrom vlqOf fieldsFrom wideFrom reducedOf sumOf columned counted applied segmentStep stepFrom run
+minus-zero-taken = refl

@@ -57,7 +57,7 @@ module _ (mode : Mode) (sources names : ℕ) where
     step-fields : (at : ℕ) (rest : List ℕ) → Ends rest
         → stepFrom mode sources names (ledTo p t at) (spelled (fieldsOf p t) ++ rest)
         ≡ stepped at (starts (fieldsAt mode at (fieldsOf p t)))
-          (applied mode sources names (ledTo p t at) (segmentOf (whole (fieldsAt mode at (fieldsOf p t)) (at + length (spelled (fieldsOf p t))))))
+        (applied mode sources names (ledTo p t at) (segmentOf (whole (fieldsAt mode at (fieldsOf p t)) (at + length (spelled (fieldsOf p t))))))
     step-fields at rest z =
         let d = head-fields p t rest in
         let e = fields-back mode at (fieldsOf p t) rest (readable p t h f .0) z in
@@ -75,11 +75,11 @@ module _ (mode : Mode) (sources names : ℕ) where
     -- the token's bytes: a is what the fields do
     pub step-bytes : (first : Bool) (at : ℕ) (rest : List ℕ) → Ends rest → (a : Applied)
         → applied mode sources names (ledTo p t (at + length (lead first (p .«prev_dst_line») (t .«dst_line»))))
-          (segmentOf (whole (fieldsAt mode (at + length (lead first (p .«prev_dst_line») (t .«dst_line»))) (fieldsOf p t)) (at + length (bytesOf first p t))))
+        (segmentOf (whole (fieldsAt mode (at + length (lead first (p .«prev_dst_line») (t .«dst_line»))) (fieldsOf p t)) (at + length (bytesOf first p t))))
         ≡ a
         → stepFrom mode sources names (stateOf p at) (bytesOf first p t ++ rest)
         ≡ stepped (at + length (lead first (p .«prev_dst_line») (t .«dst_line»)))
-          (starts (fieldsAt mode (at + length (lead first (p .«prev_dst_line») (t .«dst_line»))) (fieldsOf p t))) a
+        (starts (fieldsAt mode (at + length (lead first (p .«prev_dst_line») (t .«dst_line»))) (fieldsOf p t))) a
     unfolding bytesOf
     step-bytes first at rest z a e =
         let l : List ℕ = lead first (p .«prev_dst_line») (t .«dst_line») in

@@ -96,5 +96,5 @@ module _ (sources names : ℕ) where
           (run-refuse text room (stateOf p at) _ _
           (ap (stepFrom Mode.Checked sources names (stateOf p at)) e
           ∙ step-bytes Mode.Checked sources names p t h f₁ (m .0) (eqb i 0) at r (ends-next Mode.Checked sources names i (after p t) ts (m .1)) _
-            (stops sources names _ (fieldsOf p t) _ _ q (readable p t h f₁ .1)))))
+          (stops sources names _ (fieldsOf p t) _ _ q (readable p t h f₁ .1)))))
           (record { before = []; t = t; first = record { rest = ts; split = refl; taken = refl; off = q }; code = refl; tokens = refl })

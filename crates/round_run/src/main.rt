@@ -1,9 +1,20 @@
 // Demand 3 of docs/RULES.md, running: writes a table in chunks of every size, joins the bytes, decodes them in both modes and compares.
+// It does so with two tables: the first has a step to a source column that is too wide for checked mode, the second has none.
 use token::Token;
 use token::TokenChunk;
 
+// The source column of token k.
+fn col_of(wide: bool, k: u32) -> u32 {
+    let from = k % 32 - k % 32 % 3;
+    if wide {
+        4294967295 - from
+    } else {
+        2147483647 - from
+    }
+}
+
 // The i-th token of a list that meets the premises: every third has no source and repeats the source position.
-fn token_of(i: u32) -> Token {
+fn token_of(wide: bool, i: u32) -> Token {
     let k = i % 32;
     let from = k - k % 3;
     if k % 3 == 2 {
@@ -11,7 +22,7 @@ fn token_of(i: u32) -> Token {
             dst_line: k / 4,
             dst_col: k % 4 * 1000,
             src_line: (from + 1) * 70000,
-            src_col: 4294967295 - from,
+            src_col: col_of(wide, k),
             source_id: token::NONE,
             name_id: token::NONE,
         };
@@ -20,7 +31,7 @@ fn token_of(i: u32) -> Token {
         dst_line: k / 4,
         dst_col: k % 4 * 1000,
         src_line: (from + 1) * 70000,
-        src_col: 4294967295 - from,
+        src_col: col_of(wide, k),
         source_id: k % 5,
         name_id: name_of(k),
     }
@@ -46,10 +57,10 @@ fn zeros() -> TokenChunk {
     }
 }
 
-fn fill(table: &mut [u32; 144]) {
+fn fill(wide: bool, table: &mut [u32; 144]) {
     let mut i: usize = 0;
     while i < 24 {
-        token::put_token(table, i, token_of(i as u32));
+        token::put_token(table, i, token_of(wide, i as u32));
         i += 1;
     }
 }
@@ -105,9 +116,9 @@ fn same(a: &[u32; 144], b: &[u32; 144]) -> bool {
 
 fn print_yes(yes: bool) {
     if yes {
-        io::write_all(1, b" same");
+        io::write_all(1, b" yes");
     } else {
-        io::write_all(1, b" DIFFERENT");
+        io::write_all(1, b" no");
     }
 }
 
@@ -148,6 +159,7 @@ fn print_sizes(table: &[u32; 144], whole: usize, out: &mut [u8]) {
 fn run_all(table: &[u32; 144], out: &mut [u8]) {
     io::write_all(1, b"premises");
     print_yes(premises::meets_premises(table, 5, 1000));
+    print_yes(checked_premises::meets_checked_premises(table, 5, 1000));
     io::write_all(1, b"\nbytes ");
     let whole = write_in_chunks(table, 24, out);
     io::print_decimal(1, whole as u64);
@@ -158,6 +170,8 @@ fn run_all(table: &[u32; 144], out: &mut [u8]) {
 fn main() {
     let mut table = [0u32; 144];
     let mut out = [0u8; 4096];
-    fill(&mut table);
+    fill(true, &mut table);
+    run_all(&table, &mut out);
+    fill(false, &mut table);
     run_all(&table, &mut out);
 }

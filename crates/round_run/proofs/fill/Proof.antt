@@ -5,10 +5,10 @@ use Rattle.round_run.proofs.fill.Statement.{statement}
 use Rattle.round_run.proofs.fill.Tie as tie
 
 abbrev Inv-loop : tie.InvT-loop
-Inv-loop table₀ i₀ table i = i ≤ 24
+Inv-loop wide table₀ i₀ table i = i ≤ 24
 
 abbrev μ-loop : tie.MeasureT-loop
-μ-loop table₀ i₀ table i = 24 - i
+μ-loop wide table₀ i₀ table i = 24 - i
 
 loop-holds : tie.Need-loop-holds Inv-loop μ-loop
 loop-holds c = search needs

@@ -32,7 +32,7 @@ returns c =
     let args = c .before .before .before .before .before .before .before .before .args in
     c .judged .ensures
     ∙ ap (λ (x : Judged). judgedTo x (args .at + 1))
-      (c .before .value-of .ensures ∙ ap (λ (n : ℕ). valueOf (args .mode) n 0) (c .before .before .wide .ensures))
+    (c .before .value-of .ensures ∙ ap (λ (n : ℕ). valueOf (args .mode) n 0) (c .before .before .wide .ensures))
     ∙ capital-field (args .mode) _ (args .at) _ (c .before .before .before .before .before .before .if1 .taken) (c .before .before .before .before .wrapping-sub-u8 .ensures) (c .before .before .before .if2 .taken)
 
 next-value-requires : tie.Need-next-value-requires

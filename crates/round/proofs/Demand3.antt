@@ -8,7 +8,7 @@ use native.Mathlib.Omega.{arith}
 use lib.ListN.{length, take}
 use Rattle.list.specs.Memory.{onto}
 use Rattle.code.specs.declared.Code.{Code}
-use Rattle.token.specs.Table.{places, badTable, tokensOf, flat, over}
+use Rattle.token.specs.Table.{places, tokensOf, flat, over}
 use Rattle.token.specs.declared.Token.{Token}
 use Rattle.token.proofs.Laws.{length-tokens}
 use Rattle.token.proofs.Whole.{flat-tokens}
@@ -17,7 +17,6 @@ use Rattle.decode.specs.declared.Decoded.{Decoded}
 use Rattle.decode.specs.Mapping.{Out, answer, decoded}
 use Rattle.chunk.specs.Chunk.{fresh, firstBack}
 use Rattle.encode.specs.declared.Encoded.{Encoded}
-use Rattle.encode.specs.Encode.{bytesIn}
 use Rattle.premises.specs.Premises.{SoundTable}
 use Rattle.checked_premises.specs.Checked.{takesAll}
 use Rattle.round.specs.Terms.{whole, Call, Cut, joined, AllDone, Gives, Refuses, ReadsBack}

@@ -5,7 +5,6 @@ use mathlib.Core.Bool.{true}
 use mathlib.Core.List.{List, [], _∷_}
 use Prim.Native.Nat.{ℕ}
 use native.Mathlib.Omega.{arith}
-use lib.ListN.{length}
 use Rattle.list.specs.Memory.{onto}
 use Rattle.code.specs.declared.Code.{Code}
 use Rattle.token.specs.Table.{noId, tokenAt, tokensFrom}

@@ -1,7 +1,7 @@
 -- The standard's rule on numbers: where it errs, minus zero, and that the modes agree on every other number. Assumes nothing.
 use mathlib.Core.Path.{_≡_, refl, _∙_, ap}
 use mathlib.Core.Bool.{Bool, true, false}
-use Prim.Native.Nat.{ℕ, zero, suc, _+_, _*_, _/_, _%_, _^_, _<_, _≤_}
+use Prim.Native.Nat.{ℕ, zero, suc, _/_, _%_, _^_, _<_, _≤_}
 use native.Mathlib.Omega.{arith}
 use lib.IntN.{pos, negsuc, negℤ, natAbs}
 use lib.Dec.{eqb, leb}
@@ -10,7 +10,7 @@ use Rattle.list.specs.Pick.{pick}
 use Rattle.value.specs.declared.Mode.{Mode}
 use Rattle.value.specs.declared.Mode.the-variants.{Lenient, Checked}
 use Rattle.value.specs.declared.Judged.the-variants.{Is, Wide}
-use Rattle.value.specs.Standard.{Run, unsigned, magnitude, tooWide, signed}
+use Rattle.value.specs.Standard.{Run, unsigned, tooWide, signed}
 use Rattle.value.specs.Value.{signOf, valueOf, numberOf, isWide}
 use Rattle.value.proofs.Signed.{asSigned-low}
 

@@ -1,5 +1,5 @@
 -- ECMA-426: what a run of digits says. Assumes nothing.
-use mathlib.Core.Bool.{Bool, true, false}
+use mathlib.Core.Bool.{Bool}
 use Prim.Native.Nat.{ℕ, _+_, _-_, _*_, _/_, _%_, _^_}
 use lib.IntN.{pos, negsuc, negℤ}
 use lib.Dec.{eqb, leb, ltb}

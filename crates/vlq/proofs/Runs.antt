@@ -1,20 +1,19 @@
 -- A run of ECMA-426's digits is read as the standard reads it. Assumes nothing.
-use mathlib.Core.Path.{_≡_, refl, _∙_, ap, ap₂}
-use mathlib.Core.Bool.{true, false}
+use mathlib.Core.Path.{_≡_, _∙_, ap}
+use mathlib.Core.Bool.{true}
 use mathlib.Core.List.{List, _++_}
-use Prim.Native.Nat.{ℕ, _+_, _-_, _*_, _%_, _<_, _≤_}
+use Prim.Native.Nat.{ℕ, _+_, _-_, _*_, _%_, _≤_}
 use native.Mathlib.Omega.{arith}
-use lib.Dec.{eqb, leb, ltb}
+use lib.Dec.{leb, ltb}
 use lib.ListN.{length}
 use borrow.Author.Tests.{ltb-true, leb-true, le-ltb, ne-eqb}
 use Rattle.list.specs.Pick.{both}
 use Rattle.list.proofs.Pick.{both-true}
-use Rattle.digits.specs.Digits.{digitOf, isDelim, charOf}
 use Rattle.digits.proofs.Tables.{char}
 use Rattle.value.specs.Standard.{Run, terminal, goes-on, isRun, unsigned}
 use Rattle.value.proofs.Standard.{value-standard}
-use Rattle.vlq.specs.Vlq.{num, push, digitsFrom, vlqFrom, vlqOf}
-use Rattle.vlq.specs.Runs.{spell, Reads, ByTheStandard}
+use Rattle.vlq.specs.Vlq.{num, digitsFrom, vlqFrom, vlqOf}
+use Rattle.vlq.specs.Runs.{spell, ByTheStandard}
 
 read : (r : Run) (rest : List ℕ) (left : ℕ) → isRun r ≡ true → length (spell r) ≤ left → digitsFrom left (spell r ++ rest) ≡ num (unsigned r) (length (spell r))
 unfolding spell isRun unsigned digitsFrom

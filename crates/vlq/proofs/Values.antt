@@ -1,9 +1,9 @@
 -- What a caller of the reader knows of a value: it takes at least one byte, ends within the text, and is within its range.
 -- Assumes nothing.
-use mathlib.Core.Path.{_≡_, refl, sym, _∙_, ap, subst}
+use mathlib.Core.Path.{_≡_, refl}
 use mathlib.Core.Bool.{Bool, true, false}
 use mathlib.Core.List.{List, [], _∷_}
-use Prim.Native.Nat.{ℕ, zero, suc, _+_, _-_, _*_, _/_, _%_, _^_, _<_, _≤_}
+use Prim.Native.Nat.{ℕ, suc, _+_, _-_, _*_, _%_, _^_, _<_, _≤_}
 use native.Mathlib.Omega.{arith}
 use lib.IntN.{natAbs}
 use lib.Dec.{ltb, eqb}
@@ -16,8 +16,7 @@ use Rattle.value.specs.declared.Mode.{Mode}
 use Rattle.value.proofs.Range.{value-range}
 use Rattle.vlq.proofs.Places.{place-next}
 use Rattle.vlq.specs.Vlq.{Digits, cut, long, num, push, digitsFrom, vlqFrom, vlqOf, vlqAt}
-use Rattle.vlq.specs.declared.Vlq.{Vlq}
-use Rattle.vlq.specs.declared.Vlq.the-variants.{End, Value, Leftover, Overflow}
+use Rattle.vlq.specs.declared.Vlq.the-variants.{End, Value}
 
 abbrev pub Sized : ℕ → ℕ → Type 0
 Sized len m = (0 < len) × (len ≤ m)

@@ -1,6 +1,5 @@
 -- `segment::first_wide` meets its contract. Assumes nothing.
-use mathlib.Core.Path.{_∙_}
-use borrow.Author.Tests.{eq-eqb, ne-eqb, lt-ltb, le-ltb}
+use borrow.Author.Tests.{ne-eqb, lt-ltb, le-ltb}
 use borrow.Author.Needs.{needs}
 use Rattle.segment.proofs.first_wide.Statement.{statement}
 use Rattle.segment.proofs.first_wide.Tie as tie

@@ -1,5 +1,5 @@
 -- `segment::judged` meets its contract. Assumes nothing.
-use mathlib.Core.Path.{_∙_, ap}
+use mathlib.Core.Path.{ap}
 use lib.IntN.{ℤ}
 use mir.Facts.{toZ-ofZ}
 use Rattle.segment.specs.declared.Parsed.{Parsed}

@@ -1,6 +1,5 @@
 -- `segment::next_value` meets its contract. Assumes nothing.
 use mathlib.Core.Path.{_∙_, ap}
-use Prim.Native.Nat.{ℕ}
 use Rattle.value.specs.declared.Judged.{Judged}
 use Rattle.segment.specs.Fields.{judgedTo}
 use Rattle.segment.proofs.OneDigit.{end-field, cut-field, long-field, value-field}

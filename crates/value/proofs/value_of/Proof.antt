@@ -4,7 +4,7 @@ use native.Mathlib.Omega.{arith}
 use mir.Syntax.{w64}
 use mir.Facts.{toZ-ofZ, toZ-pos}
 use Rattle.value.specs.declared.Judged.the-variants.{Is}
-use Rattle.value.specs.Value.{signOf, valueOf}
+use Rattle.value.specs.Value.{signOf}
 use Rattle.value.proofs.Standard.{value-plain}
 use borrow.Author.Needs.{needs}
 use Rattle.value.proofs.value_of.Statement.{statement}

@@ -30,6 +30,7 @@ unsafe extern "C" {
     fn raw_pgk_lookup(r: *mut Words<2>, table: &Fat, line: u32, col: u32);
     fn raw_pgk_table_size(text: &Fat) -> u64;
     fn raw_pgk_meets_premises(table: &Fat, sources: u32, names: u32) -> u64;
+    fn raw_pgk_meets_checked_premises(table: &Fat, sources: u32, names: u32) -> u64;
     fn raw_pgk_encode(r: *mut Words<7>, table: &Fat, chunk: &Chunk, out: &Fat);
     fn raw_pgk_compose(
         r: *mut Words<3>,
@@ -95,6 +96,11 @@ pub unsafe extern "C" fn pgk_table_size(text: *const u8, n: usize) -> u64 {
 #[unsafe(no_mangle)]
 pub unsafe extern "C" fn pgk_meets_premises(table: *const u8, n: usize, sources: u32, names: u32) -> u64 {
     unsafe { raw_pgk_meets_premises(&fat((table, n)), sources, names) }
+}
+
+#[unsafe(no_mangle)]
+pub unsafe extern "C" fn pgk_meets_checked_premises(table: *const u8, n: usize, sources: u32, names: u32) -> u64 {
+    unsafe { raw_pgk_meets_checked_premises(&fat((table, n)), sources, names) }
 }
 
 #[unsafe(no_mangle)]

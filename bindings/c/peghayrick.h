@@ -1,4 +1,4 @@
-/* Peghayrick 0.3.0: the mapping core of source maps, for C99 and later and C++11 and later.
+/* Peghayrick 0.4.0: the mapping core of source maps, for C99 and later and C++11 and later.
  *
  * Link with libpeghayrick.a (x86-64 Linux). The archive needs one symbol from outside, memset.
  *
@@ -44,8 +44,8 @@ extern "C" {
 #endif
 
 /* The version of this header: major * 1000000 + minor * 1000 + patch. pgk_version() has that of the archive. */
-#define PGK_VERSION 3000u
-#define PGK_VERSION_TEXT "0.3.0"
+#define PGK_VERSION 4000u
+#define PGK_VERSION_TEXT "0.4.0"
 
 /* As an id: none. */
 #define PGK_NONE 4294967295u
@@ -60,7 +60,7 @@ extern "C" {
 #define PGK_BAD_SEGMENT_SIZE 3u      /* the field count modulo 2^32, or 0 for a negative column or line */
 #define PGK_BAD_SOURCE_REFERENCE 4u  /* the source id before this segment */
 #define PGK_BAD_NAME_REFERENCE 5u    /* the new name id, modulo 2^32 */
-#define PGK_WIDE_VALUE 6u            /* the field, 0 to 4, that leaves 32 bits (checked mode only) */
+#define PGK_WIDE_VALUE 6u            /* the field, 0 to 4, whose value or sum is too wide (checked mode only) */
 #define PGK_TABLE_FULL 7u            /* the table has too few places */
 #define PGK_NO_ROOM 8u               /* places needed */
 #define PGK_LINE_GOES_BACK 9u        /* index of the first such token */
@@ -151,9 +151,14 @@ pgk_decoded pgk_decode(const uint8_t *text, size_t text_len, uint32_t sources, u
 /* The same, by name. */
 pgk_decoded pgk_decode_lenient(const uint8_t *text, size_t text_len, uint32_t sources, uint32_t names, uint32_t *table, size_t table_len);
 
-/* The same, and PGK_WIDE_VALUE for a column, line or name id of 2^32 or more, or a name id below 0. This is the
- * decode for a screen: no position loses bits unseen. A refused map must not be looked up, though the tokens
- * before the refused segment are in the table. */
+/* Decodes likewise, but takes each value as ECMA-426 does, by all of its digits: a magnitude of 2^31 or more is too
+ * wide, and minus zero ("B", "hA") is -2^31, by which most sums fall below 0. This is the decode for a screen: no
+ * position loses bits unseen. PGK_WIDE_VALUE has two places among the refusals of a segment:
+ *   once its values are all read, before its column and its count: one of the first five is too wide
+ *   where a sum is kept: a column or line of 2^32 or more, a name id of 2^32 or more or below 0
+ * It refuses texts that the other decodes take; where a text has minus zero, it may also take what they refuse, or
+ * give other positions. A refused map must not be looked up, though the tokens before the refused segment are in the
+ * table. */
 pgk_decoded pgk_decode_checked(const uint8_t *text, size_t text_len, uint32_t sources, uint32_t names, uint32_t *table, size_t table_len);
 
 /* Writes a chunk of a table as mappings text. The first chunk is pgk_first_chunk(end); for the next, take next and
@@ -173,6 +178,14 @@ pgk_encoded pgk_encode(const uint32_t *table, size_t table_len, pgk_chunk chunk,
  * (0, 0 before any). A table that was decoded by these counts should, unless its text has 2^32 ';' or gives more
  * than 4294967294 tokens: that is no theorem, so ask. One that was made, translated or composed need not. */
 uint64_t pgk_meets_premises(const uint32_t *table, size_t table_len, uint32_t sources, uint32_t names);
+
+/* 1 where it surely reads back in checked mode too, else 0, also for a bad table: pgk_meets_premises says 1, and each
+ * step that is written is below 2^31, up or down. There is a step to each generated column (on a new line from 0), with
+ * a source to the source id, line and column (from the latest token with one, 0 before any), and with a name to the name
+ * id (from the latest that is written). Where pgk_meets_premises alone says 1, pgk_decode_checked refuses what is
+ * written with PGK_WIDE_VALUE: ask before a screen relies on it. A table that was decoded in checked mode may have a
+ * step of -2^31 too, from minus zero. */
+uint64_t pgk_meets_checked_premises(const uint32_t *table, size_t table_len, uint32_t sources, uint32_t names);
 
 /* Adds line_offset to each generated line, and the other offsets to each id other than PGK_NONE. Refusals:
  *   PGK_BAD_TABLE

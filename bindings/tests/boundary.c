@@ -116,9 +116,16 @@ static void worked(void) {
         { "gAADA", 1, 0, 3, 0, 3, 0, 3, 0, 0 },
         { "AAA", 1, 0, 3, 3, 3, 3, 0, 0, 0 },
         { "AAAAAA", 1, 1, 3, 6, 3, 6, 0, 0, 0 },
-        { "+/////H", 0, 0, 0, 0, 0, 0, 0, 1, 4294967295u },
+        { "+/////D", 0, 0, 0, 0, 0, 0, 0, 1, 2147483647u },
+        { "ggggggE", 0, 0, 0, 0, 6, 0, 0, 1, 2147483648u },
+        { "hgggggE", 0, 0, 3, 0, 6, 0, 0, 0, 0 },
+        { "+/////H", 0, 0, 0, 0, 6, 0, 0, 1, 4294967295u },
         { "ggggggI", 0, 0, 0, 0, 6, 0, 0, 1, 0 },
+        { "B", 0, 0, 0, 0, 3, 0, 0, 1, 0 },
+        { "hA", 0, 0, 0, 0, 3, 0, 0, 1, 0 },
         { "ggggggggggggA", 0, 0, 0, 0, 0, 0, 0, 1, 0 },
+        { "ggggggggggggQ", 0, 0, 0, 0, 6, 0, 0, 1, 0 },
+        { "hgggggggggggQ", 0, 0, 0, 0, 6, 0, 0, 1, 0 },
         { "gggggggggggggA", 0, 0, 2, 0, 2, 0, 13, 0, 0 },
         { "ggggggggggggg,", 0, 0, 1, 0, 1, 0, 13, 0, 0 },
         { "!", 0, 0, 1, 0, 1, 0, 1, 0, 0 },
@@ -139,6 +146,29 @@ static void worked(void) {
     uint32_t out[12], two[12] = { 0, 0, 2, 3, 0, none, 1, 1, 2, 3, none, none };
     for (int mode = 0; mode < 3; mode++)
         check(decode_all(mode, "AAEG;C", 6, 1, 0, 12, (pgk_decoded){ 0, 0, 2, 6 }, out) && memcmp(out, two, 48) == 0, "AAEG;C");
+    /* What checked mode has alone: minus zero, the first field that is too wide, and its place among the refusals. */
+    uint32_t zero[6] = { 0 };
+    check(decode_all(1, "AAAAB", 5, 1, 1, 6, (pgk_decoded){ 0, 0, 1, 5 }, out) && memcmp(out, zero, 24) == 0, "minus zero as a name, lenient");
+    static const struct { const char *text; uint32_t s, n; pgk_decoded want; const char *what; } rules[] = {
+        { "AAAAB", 1, 1, { 6, 4, 0, 4 }, "minus zero as a name, checked" },
+        { "AAggggggIA", 1, 0, { 6, 2, 0, 2 }, "a wide source line" },
+        { "DggggggEAA", 1, 0, { 6, 1, 0, 1 }, "a wide source before a column below 0" },
+        { "AggggggE", 1, 0, { 6, 1, 0, 1 }, "a wide source before a wrong count" },
+        { "AAAAggggggEA", 1, 1, { 6, 4, 0, 4 }, "a wide fifth field of six" },
+        { "AAAAAggggggE", 1, 1, { 3, 6, 0, 0 }, "a sixth field is not judged" },
+        { "AAggggggEggggggE", 1, 1, { 6, 2, 0, 2 }, "the first of two wide fields" },
+        { "ggggggEg", 1, 1, { 1, 0, 0, 8 }, "a value cut short comes before a wide one" },
+        { "ggggggEgggggggggggggA", 1, 1, { 2, 0, 0, 20 }, "a fourteenth digit comes before a wide value" },
+        { "+/////D,+/////D,C,C", 0, 0, { 6, 0, 3, 18 }, "a sum of 2^32" },
+        { "+/////D,C,B", 0, 0, { 0, 0, 3, 11 }, "minus zero from 2^31 to 0" },
+        { "+/////D,hA", 0, 0, { 3, 0, 1, 8 }, "minus zero from 2^31 - 1" },
+    };
+    for (size_t i = 0; i < sizeof rules / sizeof *rules; i++) {
+        uint32_t read[24];
+        int ok = decode_all(2, rules[i].text, strlen(rules[i].text), rules[i].s, rules[i].n, 24, rules[i].want, read);
+        if (rules[i].want.code == 0) ok &= read[7] == 2147483648u && read[13] == 0;
+        check(ok, rules[i].what);
+    }
     check(decode_all(0, "AAEG;C", 6, 1, 0, 11, (pgk_decoded){ 7, 0, 1, 5 }, out), "TableFull, eleven numbers");
     check(decode_all(0, "AAEG;AAA", 8, 1, 0, 6, (pgk_decoded){ 3, 3, 1, 5 }, out), "a full table and a bad segment: the segment's code");
     check(decode_all(0, "AAEG;AAAJ", 9, 1, 0, 12, (pgk_decoded){ 3, 0, 1, 8 }, out), "a source column below 0, behind a token");
@@ -233,13 +263,15 @@ static void writing(unsigned rounds) {
     deep[0] = 4294967295u;
     check(encode_all(deep, 6, deep_line, 35, 0, 0, 35, done, got), "the largest numbers are written in 35 bytes");
     uint32_t back_again[6];
-    for (int mode = 0; mode < 3; mode++) {
+    check(decode_all(2, (char *)got, 35, 4294967295u, 4294967295u, 6, (pgk_decoded){ 6, 0, 0, 0 }, NULL), "the largest steps, checked");
+    for (int mode = 0; mode < 2; mode++) {
         int ok = decode_all(mode, (char *)got, 35, 4294967295u, 4294967295u, 6, (pgk_decoded){ 0, 0, 1, 35 }, back_again);
         check(ok && memcmp(back_again + 1, deep + 1, 20) == 0, "4294967295 sources and names");
         check(decode_all(mode, (char *)got, 35, 4294967294u, 4294967295u, 6, (pgk_decoded){ 4, 0, 0, 7 }, NULL), "4294967294 sources");
         check(decode_all(mode, (char *)got, 35, 4294967295u, 4294967294u, 6, (pgk_decoded){ 5, 4294967294u, 0, 28 }, NULL), "4294967294 names");
     }
     int round = 1, joined = 1, room = 1;
+    unsigned wide = 0;
     for (unsigned r = 0; r < rounds; r++) {
         uint32_t table[96], read[96] = { 0 }, count = below(17), line = 0;
         for (uint32_t t = 0; t < count; t++) {
@@ -256,8 +288,14 @@ static void writing(unsigned rounds) {
         int ok = 1;
         pgk_encoded e = encode_at(FIRST, FIRST, table, 6 * count, c, whole, 4096, &ok);
         round &= ok && e.code == 0 && e.next.start == count && e.next.end == count;
-        pgk_decoded d = decode_at((int)below(3), LAST, LAST, whole, e.bytes, 4294967295u, 4294967295u, read, 6 * count, &ok);
-        round &= ok && d.code == 0 && d.tokens == count && memcmp(table, read, 24 * count) == 0;
+        int mode = (int)below(3);
+        pgk_decoded d = decode_at(mode, LAST, LAST, whole, e.bytes, 4294967295u, 4294967295u, read, 6 * count, &ok);
+        if (mode == 2 && pgk_meets_checked_premises(table, 6 * count, 4294967295u, 4294967295u) == 0) {
+            round &= ok && d.code == PGK_WIDE_VALUE;
+            wide++;
+        } else {
+            round &= ok && d.code == 0 && d.tokens == count && memcmp(table, read, 24 * count) == 0;
+        }
         if (e.bytes > 0) room &= encode_all(table, 6 * count, c, e.bytes - 1, 8, e.bytes, 0, c, NULL);
         room &= encode_all(table, 6 * count, c, e.bytes, 0, 0, e.bytes, e.next, NULL);
         size_t at = 0;
@@ -271,7 +309,8 @@ static void writing(unsigned rounds) {
         }
         joined &= ok && at == e.bytes && memcmp(whole, parts, at) == 0;
     }
-    check(round, "tables: written and decoded again, the same tokens");
+    check(round, "tables: written and decoded again, the same tokens; or refused in checked mode, where a step is too wide");
+    check(wide > 0, "tables with a step that is too wide");
     check(room, "tables: one byte too few is NoRoom with the bytes needed, the exact room is enough");
     check(joined, "tables: chunks of any size, joined, are the text of the whole");
 }
@@ -420,38 +459,65 @@ static uint64_t premised(const uint32_t *k, size_t numbers, uint32_t sources, ui
     return 1;
 }
 
-static uint64_t premises_at(place where, const uint32_t *table, size_t numbers, uint32_t s, uint32_t n, int *ok) {
+/* Whether it surely reads back in checked mode too, by the rule. */
+static uint64_t premised_checked(const uint32_t *k, size_t numbers, uint32_t sources, uint32_t names) {
+    int64_t line = 0, was[6] = { 0 };   /* by the place in a token */
+    if (!premised(k, numbers, sources, names)) return 0;
+    for (size_t t = 0; t < numbers / 6; t++, k += 6) {
+        if (k[0] != line) was[1] = 0;
+        line = k[0];
+        for (int i = 1; i < 6; i++) {
+            if (i > 1 && (k[4] == none || (i == 5 && k[5] == none))) continue;
+            if (llabs(k[i] - was[i]) >= 2147483648) return 0;
+            was[i] = k[i];
+        }
+    }
+    return 1;
+}
+
+static uint64_t premises_at(int checked, place where, const uint32_t *table, size_t numbers, uint32_t s, uint32_t n, int *ok) {
     lent a = lend(pens[0], where, table, 4 * numbers, 0);
-    uint64_t meets = pgk_meets_premises((uint32_t *)a.at, numbers, s, n);
+    uint32_t *t = (uint32_t *)a.at;
+    uint64_t meets = checked ? pgk_meets_checked_premises(t, numbers, s, n) : pgk_meets_premises(t, numbers, s, n);
     *ok &= back(a, NULL);
     return meets;
 }
 
 static void premises(unsigned rounds) {
+    /* meets: 0 none, 1 those of lenient mode, 2 those of checked mode too. */
     static const struct { uint32_t token[12]; size_t numbers; uint32_t s, n; uint64_t meets; const char *what; } rows[] = {
-        { { 0 }, 0, 0, 0, 1, "no token" },
-        { { 0, 0, 0, 0, PGK_NONE, PGK_NONE }, 6, 0, 0, 1, "a token without a source at 0, 0" },
+        { { 0 }, 0, 0, 0, 2, "no token" },
+        { { 0, 0, 0, 0, PGK_NONE, PGK_NONE }, 6, 0, 0, 2, "a token without a source at 0, 0" },
         { { 0, 0, 0, 0, PGK_NONE, PGK_NONE }, 5, 0, 0, 0, "not whole tokens" },
-        { { 9, 7, 5, 3, 0, 0 }, 6, 1, 1, 1, "a source and a name" },
+        { { 9, 7, 5, 3, 0, 0 }, 6, 1, 1, 2, "a source and a name" },
         { { 9, 7, 5, 3, 0, 0 }, 6, 0, 1, 0, "a source past its count" },
         { { 9, 7, 5, 3, 0, 0 }, 6, 1, 0, 0, "a name past its count" },
         { { 0, 0, 0, 0, PGK_NONE, 0 }, 6, 1, 1, 0, "a name without a source" },
         { { 0, 0, 0, 1, PGK_NONE, PGK_NONE }, 6, 1, 1, 0, "a source column without a source" },
         { { 0, 0, 1, 0, PGK_NONE, PGK_NONE }, 6, 1, 1, 0, "a source line without a source" },
-        { { 0, 0, 2, 3, 0, PGK_NONE, 1, 1, 2, 3, PGK_NONE, PGK_NONE }, 12, 1, 0, 1, "the source position before is repeated" },
+        { { 0, 0, 2, 3, 0, PGK_NONE, 1, 1, 2, 3, PGK_NONE, PGK_NONE }, 12, 1, 0, 2, "the source position before is repeated" },
         { { 0, 0, 2, 3, 0, PGK_NONE, 1, 1, 0, 0, PGK_NONE, PGK_NONE }, 12, 1, 0, 0, "the source position before is not repeated" },
         { { 1, 0, 2, 3, 0, PGK_NONE, 0, 0, 2, 3, 0, PGK_NONE }, 12, 1, 0, 0, "a line goes back" },
-        { { 1, 5, 2, 3, 0, PGK_NONE, 1, 0, 2, 3, 0, PGK_NONE }, 12, 1, 0, 1, "a column goes back" },
+        { { 1, 5, 2, 3, 0, PGK_NONE, 1, 0, 2, 3, 0, PGK_NONE }, 12, 1, 0, 2, "a column goes back" },
         { { 4294967295u, 0, 0, 0, 4294967294u, 4294967294u }, 6, PGK_NONE, PGK_NONE, 1, "the largest line and ids" },
+        { { 4294967295u, 2147483647u, 2147483647u, 2147483647u, 2147483647u, 2147483647u }, 6, PGK_NONE, PGK_NONE, 2, "the largest steps" },
+        { { 0, 2147483648u, 0, 0, 0, 0 }, 6, 1, 1, 1, "a column by 2^31" },
+        { { 0, 0, 2147483648u, 0, 0, 0 }, 6, 1, 1, 1, "a source line by 2^31" },
+        { { 0, 0, 0, 2147483648u, 0, 0 }, 6, 1, 1, 1, "a source column by 2^31" },
+        { { 0, 0, 0, 0, 2147483648u, 0 }, 6, PGK_NONE, 1, 1, "a source by 2^31" },
+        { { 0, 0, 0, 0, 0, 2147483648u }, 6, 1, PGK_NONE, 1, "a name by 2^31" },
+        { { 0, 1, 0, 0, 0, PGK_NONE, 0, 2147483648u, 0, 0, 0, PGK_NONE }, 12, 1, 0, 2, "2^31 by a smaller step" },
+        { { 0, 1, 0, 0, 0, PGK_NONE, 1, 2147483648u, 0, 0, 0, PGK_NONE }, 12, 1, 0, 1, "2^31 from the start of a line" },
     };
     for (size_t i = 0; i < sizeof rows / sizeof *rows; i++) {
         int ok = 1;
         for (place w = FIRST; w < PLACES; w++)
-            ok &= premises_at(w, rows[i].token, rows[i].numbers, rows[i].s, rows[i].n, &ok) == rows[i].meets;
+            for (int checked = 0; checked < 2; checked++)
+                ok &= premises_at(checked, w, rows[i].token, rows[i].numbers, rows[i].s, rows[i].n, &ok) == (rows[i].meets > (uint64_t)checked);
         check(ok, rows[i].what);
     }
-    int by_rule = 1, reads_back = 1;
-    unsigned met = 0, unmet = 0;
+    int by_rule = 1, reads_back = 1, refuses = 1;
+    unsigned met = 0, unmet = 0, wide = 0;
     for (unsigned r = 0; r < rounds; r++) {
         uint32_t table[96], line = 0, at[2] = { 0, 0 }, s = 1 + below(4), n = 1 + below(4);
         size_t tokens = below(17), numbers = below(20) ? 6 * tokens : below(97);
@@ -465,8 +531,17 @@ static void premises(unsigned rounds) {
         }
         size_t odd = below(96);   /* one number that may break it */
         if (below(2) == 0) table[odd] = below(3) ? below(6) : odd % 6 == 0 ? line : none;
-        uint64_t want = premised(table, numbers, s, n);
-        for (place w = FIRST; w < PLACES; w++) by_rule &= premises_at(w, table, numbers, s, n, &by_rule) == want;
+        size_t far = 6 * below(16) + 1 + below(5);   /* one whose step may be too wide */
+        if (below(3) == 0 && table[far] != none) {
+            table[far] = 2147483640u + below(16);
+            if (far % 6 == 4) s = PGK_NONE;
+            if (far % 6 == 5) n = PGK_NONE;
+        }
+        uint64_t want = premised(table, numbers, s, n), also = premised_checked(table, numbers, s, n);
+        for (place w = FIRST; w < PLACES; w++) {
+            by_rule &= premises_at(0, w, table, numbers, s, n, &by_rule) == want;
+            by_rule &= premises_at(1, w, table, numbers, s, n, &by_rule) == also;
+        }
         if (!want) { unmet++; continue; }
         met++;
         uint8_t text[36 * 16 + 2 * 16];   /* lines advance by at most two a token */
@@ -474,10 +549,15 @@ static void premises(unsigned rounds) {
         pgk_encoded e = pgk_encode(table, numbers, pgk_first_chunk((uint32_t)(numbers / 6)), text, sizeof text);
         pgk_decoded d = pgk_decode_lenient(text, e.bytes, s, n, again, 96);
         reads_back &= e.code == PGK_DONE && d.code == PGK_DONE && 6 * d.tokens == numbers && memcmp(table, again, 4 * numbers) == 0;
+        memset(again, 0, sizeof again);
+        d = pgk_decode_checked(text, e.bytes, s, n, again, 96);
+        if (!also) { wide++; refuses &= d.code == PGK_WIDE_VALUE; continue; }
+        reads_back &= d.code == PGK_DONE && 6 * d.tokens == numbers && memcmp(table, again, 4 * numbers) == 0;
     }
-    check(by_rule, "premises, by the rule, in every placement");
+    check(by_rule, "premises of both modes, by the rule, in every placement");
     check(reads_back, "where the premises are met, what is written reads back");
-    check(met > 0 && unmet > 0, "premises that are met and that are not");
+    check(refuses, "where those of checked mode alone are not, it refuses what is written as too wide");
+    check(met > wide && wide > 0 && unmet > 0, "premises that are met, in one mode or both, and that are not");
 }
 
 /* The header's own parts, and the version of the archive. */
@@ -633,7 +713,7 @@ static void empty(void) {
         ok &= g.code == 0 && g.number == 0 && g.added == 0;
         pgk_name n = pgk_name_of(b, 0, e, 0, b, 0, e, 0, t, 0, none);
         ok &= n.found == 0 && n.outer == 0 && n.start == 0 && n.end == 0;
-        ok &= pgk_table_size(b, 0) == 0 && pgk_meets_premises(t, 0, 0, 0) == 1;
+        ok &= pgk_table_size(b, 0) == 0 && pgk_meets_premises(t, 0, 0, 0) == 1 && pgk_meets_checked_premises(t, 0, 0, 0) == 1;
     }
     check(ok, "length 0 with any aligned address");
     /* The header's idiom. */
@@ -658,6 +738,7 @@ static void too_many(void) {
     check(pgk_translate_tokens((pgk_token *)t, tokens, 0, 0, 0).code == 11, "BadTable past 4294967294 records");
     check(pgk_lookup(t, 6 * tokens, 0, 0).code == 11, "BadTable past 4294967294 tokens: lookup");
     check(pgk_meets_premises(t, 6 * tokens, none, none) == 0, "no premises past 4294967294 tokens");
+    check(pgk_meets_checked_premises(t, 6 * tokens, none, none) == 0, "no premises of checked mode past 4294967294 tokens");
     check(pgk_compose(t, 6 * tokens, 0, &byte, 0, &end, 0, &number, 0, &byte, 0, &end, 0, &number, 0, &number, 0).code == 11, "BadTable: compose, outer");
     check(pgk_compose(&number, 0, 0, &byte, 0, &end, 0, t, 6 * tokens, &byte, 0, &end, 0, &number, 0, &number, 0).code == 11, "BadTable: compose, inner");
     check(pgk_compose(&number, 0, 0, &byte, 0, (size_t *)t, 2147483648u, &number, 0, &byte, 0, &end, 0, &number, 0, &number, 0).code == 14, "BadNames past 2147483647 names, outer");

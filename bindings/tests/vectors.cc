@@ -28,10 +28,12 @@ int main() {
     check(d.code == PGK_DONE && table.empty(), "an empty text needs no table");
     check(pgk_lookup(lent(table), table.size(), 0, 0).number == PGK_NONE, "a lookup in no table");
     check(pgk_meets_premises(lent(table), table.size(), 0, 0) == 1, "the premises of no table");
+    check(pgk_meets_checked_premises(lent(table), table.size(), 0, 0) == 1, "those of checked mode");
 
     d = decoded({ 'A', 'A', 'E', 'G', ';', 'C', ';' }, table);
     check(d.code == PGK_DONE && d.tokens == 2 && d.offset == 7, "two tokens");
     check(pgk_meets_premises(lent(table), table.size(), 1, 0) == 1, "their premises");
+    check(pgk_meets_checked_premises(lent(table), table.size(), 1, 0) == 1, "those of checked mode");
     std::vector<uint8_t> out(36 * d.tokens + 1);
     pgk_encoded e = pgk_encode(lent(table), table.size(), pgk_first_chunk(static_cast<uint32_t>(d.tokens)), out.data(), out.size());
     out.resize(e.bytes);

@@ -57,11 +57,16 @@ thread_local! {
     static CODES: RefCell<BTreeMap<(&'static str, u64), u64>> = const { RefCell::new(BTreeMap::new()) };
 }
 
-/// The codes that each part can give.
-const DUE: [(&str, &[u64]); 7] = [
+/// The codes that each part can give; for what checked mode alone has, the fields; for the premises, no and yes.
+const DUE: [(&str, &[u64]); 12] = [
     ("decode, lenient", &[0, 1, 2, 3, 4, 5, 7]),
     ("decode, checked", &[0, 1, 2, 3, 4, 5, 6, 7]),
+    ("checked, a wide value", &[0, 1, 2, 3, 4]),
+    ("checked, a wide sum", &[0, 2, 3, 4]),
+    ("checked, minus zero taken", &[0, 1, 2, 3, 4]),
     ("write", &[0, 8, 9, 10, 11]),
+    ("premises, lenient", &[0, 1]),
+    ("premises, checked", &[0, 1]),
     ("translate", &[0, 11, 12]),
     ("translate, records", &[0, 12]),
     ("lookup", &[0, 11]),
@@ -199,7 +204,7 @@ impl Tally {
         for part in parts {
             let list: Vec<String> =
                 codes.iter().filter(|(k, _)| k.0 == part).map(|((_, code), count)| format!("{code}: {count}")).collect();
-            println!("  {part:<18} {}", list.join("  "));
+            println!("  {part:<26} {}", list.join("  "));
         }
         println!();
         println!("departures from the crate that the documents name, and the smallest case met:");

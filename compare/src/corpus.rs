@@ -13,7 +13,7 @@ use crate::composing::{Pair, names_of};
 use crate::decoding::Text;
 use crate::looking::Ask;
 use crate::model::{self, Inner, Mode, NONE, Names, Outer, Token, TokenChunk, table_of};
-use crate::ours::{LentBytes, writer};
+use crate::ours::{self, LentBytes, writer};
 use crate::theirs::BUILDS;
 use crate::translating::Move;
 
@@ -93,6 +93,7 @@ fn one_map(corpus: &Path, map: &Value, random: &mut Random) -> Checked<()> {
     // What the case held to the crate and to ours.
     let decoded = model::decode(Mode::Lenient, &case.text, sources, names, usize::MAX);
     same("code", decoded.answer.code, model::DONE)?;
+    same("checked mode", &model::decode(Mode::Checked, &case.text, sources, names, usize::MAX), &decoded)?;
     let tokens = decoded.tokens;
     same("tokens", tokens.len() as u64, number("tokens"))?;
     let words: Vec<u8> = table_of(&tokens).iter().flat_map(|n| n.to_le_bytes()).collect();
@@ -106,6 +107,9 @@ fn one_map(corpus: &Path, map: &Value, random: &mut Random) -> Checked<()> {
     same("the writer's sha256", sha256(&text)?.as_str(), map["writer"]["sha256"].as_str().unwrap_or(""))?;
 
     let table = table_of(&tokens);
+    for mode in [Mode::Lenient, Mode::Checked] {
+        same("premises", ours::meets_premises(mode, &table, sources, names), 1)?;
+    }
     Move { table: table.clone(), line: 1000, source: 7, name: 9 }.check()?;
     Move { table, line: 0, source: NONE - sources + 1, name: 0 }.check()?;
     if tokens.len() < 100_000 {

@@ -101,29 +101,45 @@ impl Text {
         }
     }
 
-    /// A table of the size that the library counts is never full, by the crate's tokens too; where each segment gives a token, a
-    /// place less is too few.
-    fn size_agrees(&self, m: &Decoded) -> Result<(), String> {
+    /// A table of the size that the library counts is never full; where each segment gives a token, a place less is too few.
+    fn size_agrees(&self) -> Result<(), String> {
         let (size, want) = (ours::table_size(&self.text), model::table_size(&self.text));
         if size != want {
             return Err(format!("table size: ours {size}, the model {want}"));
         }
-        let whole = m.answer.code == model::DONE && 6 * m.tokens.len() == size && size > 0;
         for entry in Entry::ALL {
-            let mut table = Lent::new(size);
-            let (a, tokens, _) = ours::decode(entry, &self.text, self.sources, self.names, &mut table);
+            let decode = |table: &mut Lent| ours::decode(entry, &self.text, self.sources, self.names, table);
+            let (a, tokens, _) = decode(&mut Lent::new(size));
             if a.code == model::TABLE_FULL || 6 * tokens as usize > size {
                 return Err(format!("{entry:?}: {tokens} tokens and code {} in a table of {size} numbers", a.code));
             }
-        }
-        if whole {
-            let mut table = Lent::new(size - 6);
-            let (a, ..) = ours::decode(Entry::Lenient, &self.text, self.sources, self.names, &mut table);
-            if a.code != model::TABLE_FULL {
-                return Err(format!("code {} in a table of {} numbers", a.code, size - 6));
+            if a.code == model::DONE && size > 0 {
+                let (less, ..) = decode(&mut Lent::new(size - 6));
+                if 6 * tokens as usize != size || less.code != model::TABLE_FULL {
+                    return Err(format!("{entry:?}: {tokens} tokens, but code {} in {} numbers", less.code, size - 6));
+                }
             }
         }
         Ok(())
+    }
+
+    /// Counts what checked mode met that lenient mode does not have: a field whose value is too wide, a field whose sum is, and the
+    /// fields in which minus zero was taken.
+    fn counted(&self, m: &Decoded) {
+        if m.answer.code == model::WIDE_VALUE {
+            let (number, _) = model::number_at(&self.text, m.offset).expect("a value at the offset");
+            met_code(if number >= 1 << 32 { "checked, a wide value" } else { "checked, a wide sum" }, m.answer.number);
+        }
+        for taken in self.text[..m.start].split(|&b| is_delimiter(b)) {
+            let (mut at, mut field) = (0, 0);
+            while at < taken.len() {
+                let (number, end) = model::number_at(taken, at).expect("a value that was taken");
+                if number == 1 {
+                    met_code("checked, minus zero taken", field);
+                }
+                (at, field) = (end, field + 1);
+            }
+        }
     }
 
     /// The library in one entry, with room for so many numbers.
@@ -149,13 +165,15 @@ impl Text {
 
 impl Case for Text {
     fn check(&self) -> Result<Vec<Class>, String> {
-        let m = model::decode(Mode::Lenient, &self.text, self.sources, self.names, usize::MAX);
-        self.crate_agrees(&m)?;
-        self.size_agrees(&m)?;
+        let decoded = |mode| model::decode(mode, &self.text, self.sources, self.names, usize::MAX);
+        let (lenient, checked) = (decoded(Mode::Lenient), decoded(Mode::Checked));
+        self.crate_agrees(&lenient)?;
+        self.size_agrees()?;
+        self.counted(&checked);
         // Rooms: one token more than it takes, just as many, one less, none; up to five numbers past a whole token.
-        let count = m.tokens.len();
-        let odd = (self.text.len() + count) % 6;
         for entry in Entry::ALL {
+            let count = if entry == Entry::Checked { checked.tokens.len() } else { lenient.tokens.len() };
+            let odd = (self.text.len() + count) % 6;
             self.ours_agrees(entry, 6 * (count + 1) + odd)?;
             self.ours_agrees(entry, 6 * count + (odd + 1) % 6)?;
             if count > 0 {
@@ -316,6 +334,162 @@ pub fn sums(go: &mut dyn FnMut(Text) -> bool) {
                     }
                 }
             }
+        }
+    }
+}
+
+/// A number in so many digits, or in the fewest where they are too few.
+fn digits_of(number: u128, places: usize) -> Vec<u8> {
+    let least = (1..13).find(|k| number >> (5 * k) == 0).unwrap_or(13);
+    spelled(number as u64, places.max(least), number >> 64 == 1)
+}
+
+/// Segments of so many fields after which one field's running number is `to`, and no value reaches 2^31.
+fn reached(field: usize, fields: usize, to: u32) -> Vec<u8> {
+    let mut text = Vec::new();
+    let mut rest = i128::from(to);
+    while rest > 0 {
+        let step = rest.min((1 << 31) - 1);
+        for f in 0..fields {
+            text.extend(model::value_text(if f == field { step } else { 0 }));
+        }
+        text.push(b',');
+        rest -= step;
+    }
+    text
+}
+
+/// The same sums as checked mode meets them: no value of the way to an edge is too wide.
+fn reached_sums(go: &mut dyn FnMut(Text) -> bool) {
+    let mut numbers: Vec<u128> = NUMBERS.to_vec();
+    for edge in EDGES {
+        numbers.extend([2 * u128::from(edge), 2 * u128::from(edge) + 1]);
+    }
+    for field in 0..5 {
+        for from in EDGES {
+            for &number in &numbers {
+                for (sources, names) in [(u32::MAX, u32::MAX), (1, 1), (u32::MAX, 2), (3, u32::MAX), (u32::MAX - 1, u32::MAX - 1)]
+                {
+                    let fields = if field == 4 { 5 } else { 4 };
+                    let mut text = reached(field, fields, from);
+                    for f in 0..fields {
+                        text.extend(digits_of(if f == field { number } else { 0 }, 1));
+                    }
+                    text.extend(b",A");
+                    if !go(Text { text, sources, names }) {
+                        return;
+                    }
+                }
+            }
+        }
+    }
+}
+
+/// Numbers of digits at which checked mode changes: 0 and minus zero, 1 and -1, a magnitude on either side of 2^31, and the bits up to
+/// the 65th.
+const NUMBERS: [u128; 25] = [
+    0,
+    1,
+    2,
+    3,
+    4,
+    (1 << 31) - 1,
+    1 << 31,
+    (1 << 31) + 1,
+    (1 << 32) - 2,
+    (1 << 32) - 1,
+    1 << 32,
+    (1 << 32) + 1,
+    (1 << 32) + 2,
+    1 << 33,
+    (1 << 33) + 1,
+    (1 << 63) - 1,
+    1 << 63,
+    (1 << 63) + 1,
+    (1 << 64) - 1,
+    1 << 64,
+    (1 << 64) + 1,
+    (1 << 64) + 2,
+    (1 << 64) + (1 << 32),
+    (1 << 64) + (1 << 63) + 1,
+    (1 << 65) - 1,
+];
+
+/// Running numbers that checked mode reaches too: all 0; all 2^31, where minus zero is taken; the largest.
+const BEFORE: [&str; 3] = [
+    "",
+    "+/////D+/////D+/////D+/////D+/////D,CCCCC,",
+    "+/////D+/////D+/////D+/////D+/////D,+/////D+/////D+/////D+/////D+/////D,CACCA,",
+];
+
+/// Each of those numbers, in the fewest digits, one more and thirteen, in each field of segments of one to seven; with fields before
+/// and behind it that fall below 0, are minus zero or too wide themselves; and with a value that breaks behind it.
+fn wide_values(go: &mut dyn FnMut(Text) -> bool) {
+    for begin in BEFORE {
+        for fields in 1..=7 {
+            for field in 0..fields {
+                for number in NUMBERS {
+                    let least = digits_of(number, 1).len();
+                    for places in [least, (least + 1).min(13), 13] {
+                        for (other, behind) in [
+                            ("A", ""),
+                            ("A", ",A;A"),
+                            ("A", "g"),
+                            ("A", "!,"),
+                            ("A", "gggggggggggggA"),
+                            ("B", ""),
+                            ("D", ""),
+                            ("hA", ",C"),
+                            ("ggggggE", ""),
+                        ] {
+                            let mut text = begin.as_bytes().to_vec();
+                            for f in 0..fields {
+                                if f == field { text.extend(digits_of(number, places)) } else { text.extend(other.bytes()) }
+                            }
+                            text.extend(behind.bytes());
+                            if !go(Text { text, sources: u32::MAX, names: u32::MAX }) {
+                                return;
+                            }
+                        }
+                    }
+                }
+            }
+        }
+    }
+}
+
+/// Walks that checked mode mostly takes: from edge to edge by values below 2^31 and by minus zero, in any count of digits; and now and
+/// then another number, or a count of fields that is none.
+fn walks(random: &mut Random, cases: usize, go: &mut dyn FnMut(Text) -> bool) {
+    for _ in 0..cases {
+        let mut text = Vec::new();
+        let mut now = [0u32; 5];
+        for _ in 0..1 + random.below(8) {
+            let fields = if random.one_in(12) { random.pick(&[2, 3, 6, 7]) } else { random.pick(&[1, 4, 5, 5]) };
+            for field in 0..fields {
+                let before = now.get(field).copied().unwrap_or(0);
+                let to = if random.one_in(3) { before } else { random.pick(&EDGES) };
+                let step = i128::from(to) - i128::from(before);
+                let number = match step.unsigned_abs() {
+                    _ if random.one_in(40) => random.pick(&NUMBERS),
+                    0x8000_0000 if step < 0 => 1,
+                    m if m < 1 << 31 => 2 * m + u128::from(step < 0),
+                    _ => 0,
+                };
+                if number > 0 && field < 5 {
+                    now[field] = to;
+                }
+                let places = random.pick(&[1, 1, 1, 2, 4, 7, 8, 12, 13]);
+                text.extend(digits_of(number, places));
+            }
+            text.push(if random.one_in(6) { b';' } else { b',' });
+            if text.ends_with(b";") {
+                now[0] = 0;
+            }
+        }
+        let counts = [1, 2, 1 << 31, (1 << 31) + 1, u32::MAX - 1, u32::MAX, u32::MAX];
+        if !go(Text { text, sources: random.pick(&counts), names: random.pick(&counts) }) {
+            return;
         }
     }
 }
@@ -487,7 +661,11 @@ pub fn worked() -> Vec<(Text, Decoded, Decoded)> {
         offset: n,
         start: n,
     };
-    let behind = |tokens: &[[u32; 6]], code, number, start, offset| Decoded { answer: answer(code, number), start, ..done(tokens, offset) };
+    let behind = |tokens: &[[u32; 6]], code, number, start, offset| Decoded {
+        answer: answer(code, number),
+        start,
+        ..done(tokens, offset)
+    };
     let refused = |code, number, offset| behind(&[], code, number, 0, offset);
     let both = |t: &[u8], s, n, d: Decoded| (Text::new(t, s, n), d.clone(), d);
     let one = [0, 0, 0, 0, NONE, NONE];
@@ -503,10 +681,25 @@ pub fn worked() -> Vec<(Text, Decoded, Decoded)> {
         both(b"gAADA", 1, 0, refused(3, 0, 3)),
         both(b"AAA", 1, 0, refused(3, 3, 0)),
         both(b"AAAAAA", 1, 1, refused(3, 6, 0)),
-        both(b"+/////H", 0, 0, done(&[[0, 4294967295, 0, 0, NONE, NONE]], 7)),
+        both(b"+/////D", 0, 0, done(&[[0, 2147483647, 0, 0, NONE, NONE]], 7)),
+        (Text::new(b"ggggggE", 0, 0), done(&[[0, 2147483648, 0, 0, NONE, NONE]], 7), refused(6, 0, 0)),
+        (Text::new(b"hgggggE", 0, 0), refused(3, 0, 0), refused(6, 0, 0)),
+        (Text::new(b"+/////H", 0, 0), done(&[[0, 4294967295, 0, 0, NONE, NONE]], 7), refused(6, 0, 0)),
         (Text::new(b"ggggggI", 0, 0), done(&[one], 7), refused(6, 0, 0)),
         (Text::new(b"AAggggggIA", 1, 0), done(&[[0, 0, 0, 0, 0, NONE]], 10), refused(6, 2, 2)),
+        (Text::new(b"D+/////HA", 1, 0), refused(3, 0, 0), refused(6, 1, 1)),
+        both(b"AAAAA+/////H", 1, 1, refused(3, 6, 0)),
+        (
+            Text::new(b"+/////D,+/////D,E", 0, 0),
+            done(&[[0, 2147483647, 0, 0, NONE, NONE], [0, 4294967294, 0, 0, NONE, NONE], one], 17),
+            behind(&[[0, 2147483647, 0, 0, NONE, NONE], [0, 4294967294, 0, 0, NONE, NONE]], 6, 0, 16, 16),
+        ),
+        (Text::new(b"B", 0, 0), done(&[one], 1), refused(3, 0, 0)),
+        (Text::new(b"hA", 0, 0), done(&[one], 2), refused(3, 0, 0)),
+        (Text::new(b"AAAAB", 1, 1), done(&[[0; 6]], 5), refused(6, 4, 4)),
         both(b"ggggggggggggA", 0, 0, done(&[one], 13)),
+        (Text::new(b"ggggggggggggQ", 0, 0), done(&[one], 13), refused(6, 0, 0)),
+        (Text::new(b"hgggggggggggQ", 0, 0), done(&[one], 13), refused(6, 0, 0)),
         both(b"gggggggggggggA", 0, 0, refused(2, 0, 13)),
         both(b"ggggggggggggg,", 0, 0, refused(1, 0, 13)),
         both(b"!", 0, 0, refused(1, 0, 1)),
@@ -584,17 +777,26 @@ pub fn run(tally: &mut Tally, seed: u64, scale: usize) {
             go(Row(i));
         }
     });
+    tally.group("decode: sums that checked mode reaches", reached_sums);
+    tally.group("decode: values around checked mode's limit", wide_values);
+    tally.group("decode: walks by checked mode's values", |go| walks(&mut Random::new(seed, "walks"), 150_000 * scale, go));
     for symbols in 0..=6 {
         tally.group(&format!("decode: every text of {symbols} symbols"), |go| {
             all_texts("", symbols, &COUNTS, go);
         });
     }
     // Behind a beginning that sets the running numbers.
-    let begins = ["EEEEE,", "ECEEC;", "+/////HA+/////H+/////HA;"];
-    for begin in begins {
-        tally.group(&format!("decode: every text to 5 behind {begin}"), |go| {
+    let largest = "+/////DA+/////D+/////DA,+/////DA+/////D+/////DA,CACCA;";
+    let begins = [
+        ("EEEEE,", "EEEEE,", 3),
+        ("ECEEC;", "ECEEC;", 3),
+        ("the largest numbers", largest, 3),
+        ("numbers of 2^31", BEFORE[1], (1 << 31) + 2),
+    ];
+    for (name, begin, count) in begins {
+        tally.group(&format!("decode: every text to 5 behind {name}"), |go| {
             for symbols in 0..=5 {
-                if !all_texts(begin, symbols, &[(3, 3)], go) {
+                if !all_texts(begin, symbols, &[(count, count)], go) {
                     return;
                 }
             }

@@ -28,19 +28,31 @@ fn decoding(build: &Build) -> Result<(), String> {
     same("0x80", ours_decode(Entry::Plain, &[0x80], 0, 0, 6), (answer(model::VLQ_LEFTOVER, 0), 0, 1))?;
     same("the place", ours_decode(Entry::Plain, b"AADA", 1, 0, 6), (answer(model::BAD_SEGMENT_SIZE, 0), 0, 2))?;
     same("the place, the crate", (build.decode)("AADA", 1, 0), Some(Err(answer(model::BAD_SEGMENT_SIZE, 0))))?;
-    let wide = "ggggggI";
-    same("wide", ours_decode(Entry::Checked, wide.as_bytes(), 0, 0, 6).0, answer(model::WIDE_VALUE, 0))?;
-    same("wide, the crate", (build.decode)(wide, 0, 0), Some(Ok(vec![at(0, 0)])))?;
+    // 2^32 in one value, and in a sum of values that are taken.
+    let lost = "ggggggI";
+    same("wide", ours_decode(Entry::Checked, lost.as_bytes(), 0, 0, 6).0, answer(model::WIDE_VALUE, 0))?;
+    same("wide, the crate", (build.decode)(lost, 0, 0), Some(Ok(vec![at(0, 0)])))?;
+    let sum = "+/////D,+/////D,E";
+    same("a wide sum", ours_decode(Entry::Checked, sum.as_bytes(), 0, 0, 18), (answer(model::WIDE_VALUE, 0), 2, 16))?;
+    let places = [(1 << 31) - 1, NONE - 1, 0].map(|col| at(0, col));
+    same("a wide sum, the crate", (build.decode)(sum, 0, 0), Some(Ok(places.to_vec())))?;
     same("name", ours_decode(Entry::Checked, b"AAAAD", 1, 1, 6).0, answer(model::WIDE_VALUE, 4))?;
     let lost = answer(model::BAD_NAME_REFERENCE, u64::from(NONE));
     same("name, the crate", (build.decode)("AAAAD", 1, 1), Some(Err(lost)))?;
-    // From ECMA-426.
+    // From ECMA-426: where checked mode judges a value as the standard does, and where it does not either.
+    let wide = answer(model::WIDE_VALUE, 0);
+    for (text, col, checked) in
+        [("B", 0, answer(model::BAD_SEGMENT_SIZE, 0)), ("ggggggE", 1 << 31, wide), ("ggggggggggggQ", 0, wide)]
+    {
+        same(text, (build.decode)(text, 0, 0), Some(Ok(vec![at(0, col)])))?;
+        let mut table = Lent::new(6);
+        let done = (answer(model::DONE, 0), 1, text.len() as u64);
+        same(text, ours::decode(Entry::Lenient, text.as_bytes(), 0, 0, &mut table), done)?;
+        same(text, table.is(&table_of(&[at(0, col)])), true)?;
+        same(text, ours_decode(Entry::Checked, text.as_bytes(), 0, 0, 6), (checked, 0, 0))?;
+    }
     let none: &[Token] = &[];
-    let long = "ggggggggggggQ";
     for (text, sources, tokens) in [
-        ("B", 0, &[at(0, 0)][..]),
-        ("ggggggE", 0, &[at(0, 1 << 31)]),
-        (long, 0, &[at(0, 0)]),
         (",", 0, none),
         (
             "AAEG,C",

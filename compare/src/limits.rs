@@ -3,7 +3,7 @@
 use std::time::Instant;
 
 use crate::cases::Tally;
-use crate::model::{self, Answer, MOST, NONE, TokenChunk, answer};
+use crate::model::{self, Answer, MOST, Mode, NONE, TokenChunk, answer};
 use crate::ours::{self, Entry};
 
 unsafe extern "C" {
@@ -27,6 +27,9 @@ fn tables(at: *mut u32) -> Result<(), String> {
     let over = 6 * (MOST + 1);
     unsafe {
         expect("lookup", ours::raw::lookup(at, over, 0, 0), BAD)?;
+        for mode in [Mode::Lenient, Mode::Checked] {
+            expect("premises", ours::raw::meets_premises(mode, at, over, 1, 1), 0)?;
+        }
         expect("translate", ours::raw::translate(at, over, 1, 1, 1), BAD)?;
         expect("translate, records", ours::raw::translate_tokens(at, MOST + 1, 1, 1, 1), BAD)?;
         // A table to write in has no such limit.

@@ -82,8 +82,8 @@ pub fn digit_of(byte: u8) -> u8 {
     }
 }
 
-/// The value at a place that has no delimiter, and where it ends; or the code, and where it broke.
-fn value_at(text: &[u8], from: usize) -> Result<(i128, usize), (u64, usize)> {
+/// The whole number that the digits at a place without a delimiter make, and where they end; or the code, and where it broke.
+pub fn number_at(text: &[u8], from: usize) -> Result<(u128, usize), (u64, usize)> {
     let mut sum: u128 = 0;
     let mut at = from;
     let mut k = 0;
@@ -99,15 +99,37 @@ fn value_at(text: &[u8], from: usize) -> Result<(i128, usize), (u64, usize)> {
         k += 1;
         at += 1;
         if digit < 32 {
-            break;
+            return Ok((sum, at));
         }
     }
-    // The 13th digit has its top bit pushed out of 64; the rest is a signed 64-bit number.
-    let kept = sum % (1 << 64);
+}
+
+/// As the crate has it: the 13th digit has its top bit pushed out of 64, and the rest is a signed 64-bit number.
+fn crate_value(number: u128) -> i128 {
+    let kept = number % (1 << 64);
     let signed = if kept < 1 << 63 { kept as i128 } else { kept as i128 - (1 << 64) };
     let half = signed.div_euclid(2);
-    let value = if signed.rem_euclid(2) == 1 { -half } else { half };
-    Ok((value, at))
+    if signed.rem_euclid(2) == 1 { -half } else { half }
+}
+
+/// As ECMA-426 has it, on every digit: none where the magnitude is 2^31 or more; minus zero is -2^31.
+fn standard_value(number: u128) -> Option<i128> {
+    let magnitude = (number / 2) as i128;
+    let minus = number % 2 == 1;
+    match (minus, magnitude) {
+        (_, m) if m >= 1 << 31 => None,
+        (true, 0) => Some(-(1 << 31)),
+        (true, m) => Some(-m),
+        (false, m) => Some(m),
+    }
+}
+
+/// The value of a number; none where it is too wide.
+fn value_of(mode: Mode, number: u128) -> Option<i128> {
+    match mode {
+        Mode::Lenient => Some(crate_value(number)),
+        Mode::Checked => standard_value(number),
+    }
 }
 
 // ---------------------------------------------------------------- mappings
@@ -154,8 +176,17 @@ struct Running {
     name_id: u32,
 }
 
-/// Steps 1 to 5.
-fn segment(mode: Mode, sources: u32, names: u32, run: &mut Running, values: &[i128]) -> Result<Token, Refused> {
+/// The values, then steps 1 to 5.
+fn segment(mode: Mode, sources: u32, names: u32, run: &mut Running, numbers: &[u128]) -> Result<Token, Refused> {
+    let mut values = Vec::new();
+    for (field, &number) in numbers.iter().enumerate() {
+        match value_of(mode, number) {
+            Some(value) => values.push(value),
+            None if field < 5 => return Err((answer(WIDE_VALUE, field as u64), Some(field))),
+            // It only counts.
+            None => values.push(0),
+        }
+    }
     run.dst_col = kept(mode, 0, i128::from(run.dst_col) + values[0])?;
     match values.len() {
         1 | 4 | 5 => {}
@@ -213,19 +244,19 @@ pub fn decode(mode: Mode, text: &[u8], sources: u32, names: u32, places: usize) 
         }
         let start = at;
         let refused = |answer, tokens, offset| Decoded { answer, tokens, offset, start };
-        let mut values = Vec::new();
+        let mut numbers = Vec::new();
         let mut places_of_fields = Vec::new();
         while at < text.len() && !is_delimiter(text[at]) {
-            match value_at(text, at) {
-                Ok((value, end)) => {
-                    values.push(value);
+            match number_at(text, at) {
+                Ok((number, end)) => {
+                    numbers.push(number);
                     places_of_fields.push(at);
                     at = end;
                 }
                 Err((code, place)) => return refused(answer(code, 0), tokens, place),
             }
         }
-        match segment(mode, sources, names, &mut run, &values) {
+        match segment(mode, sources, names, &mut run, &numbers) {
             Err((a, field)) => return refused(a, tokens, field.map_or(start, |field| places_of_fields[field])),
             Ok(_) if tokens.len() >= places => return refused(answer(TABLE_FULL, 0), tokens, start),
             Ok(token) => tokens.push(token),
@@ -299,23 +330,35 @@ pub fn meets_premises(table: &[u32], sources: u32, names: u32) -> bool {
     })
 }
 
-fn token_text(state: &mut TokenChunk, t: &Token) -> Vec<u8> {
-    let step = |now: u32, before: u32| value_text(i128::from(now) - i128::from(before));
-    let mut text = step(t.dst_col, state.prev_dst_col);
+/// Whether it surely reads back in checked mode too: each step that is written stays below 2^31, up or down.
+pub fn meets_checked_premises(table: &[u32], sources: u32, names: u32) -> bool {
+    let mut state = TokenChunk::default();
+    let near = |t: &Token| token_steps(&mut state, t).iter().all(|step| step.abs() < 1 << 31);
+    meets_premises(table, sources, names) && tokens_of(table).iter().all(near)
+}
+
+/// The values that a token is written in, after a state, which it changes.
+fn token_steps(state: &mut TokenChunk, t: &Token) -> Vec<i128> {
+    let step = |now: u32, before: u32| i128::from(now) - i128::from(before);
+    if t.dst_line != state.prev_dst_line {
+        state.prev_dst_line = t.dst_line;
+        state.prev_dst_col = 0;
+    }
+    let mut steps = vec![step(t.dst_col, state.prev_dst_col)];
     state.prev_dst_col = t.dst_col;
     if t.source_id != NONE {
-        text.extend(step(t.source_id, state.prev_source_id));
-        text.extend(step(t.src_line, state.prev_src_line));
-        text.extend(step(t.src_col, state.prev_src_col));
+        steps.push(step(t.source_id, state.prev_source_id));
+        steps.push(step(t.src_line, state.prev_src_line));
+        steps.push(step(t.src_col, state.prev_src_col));
         state.prev_source_id = t.source_id;
         state.prev_src_line = t.src_line;
         state.prev_src_col = t.src_col;
         if t.name_id != NONE {
-            text.extend(step(t.name_id, state.prev_name_id));
+            steps.push(step(t.name_id, state.prev_name_id));
             state.prev_name_id = t.name_id;
         }
     }
-    text
+    steps
 }
 
 /// room: how many bytes are lent. The bytes are made only where they fit.
@@ -343,13 +386,12 @@ pub fn encode(table: &[u32], chunk: TokenChunk, room: usize) -> Encoded {
     for (i, t) in part.iter().enumerate() {
         let lines = t.dst_line - state.prev_dst_line;
         let mut text = Vec::new();
-        if lines > 0 {
-            state.prev_dst_line = t.dst_line;
-            state.prev_dst_col = 0;
-        } else if i > 0 || chunk.start != 0 {
+        if lines == 0 && (i > 0 || chunk.start != 0) {
             text.push(b',');
         }
-        text.extend(token_text(&mut state, t));
+        for step in token_steps(&mut state, t) {
+            text.extend(value_text(step));
+        }
         need += u64::from(lines) + text.len() as u64;
         pieces.push((lines, text));
     }

@@ -22,6 +22,7 @@ unsafe extern "C" {
     fn pgk_lookup(table: *const u32, n: usize, line: u32, col: u32) -> Answer;
     fn pgk_table_size(text: *const u8, n: usize) -> usize;
     fn pgk_meets_premises(table: *const u32, n: usize, sources: u32, names: u32) -> u64;
+    fn pgk_meets_checked_premises(table: *const u32, n: usize, sources: u32, names: u32) -> u64;
 }
 
 const GUARD: usize = 16;
@@ -144,9 +145,9 @@ pub fn table_size(text: &[u8]) -> usize {
     size
 }
 
-pub fn meets_premises(table: &[u32], sources: u32, names: u32) -> u64 {
+pub fn meets_premises(mode: Mode, table: &[u32], sources: u32, names: u32) -> u64 {
     let lent = table.to_vec();
-    let yes = unsafe { pgk_meets_premises(lent.as_ptr(), lent.len(), sources, names) };
+    let yes = unsafe { raw::meets_premises(mode, lent.as_ptr(), lent.len(), sources, names) };
     assert!(lent == table, "the table changed");
     yes
 }
@@ -162,6 +163,13 @@ pub mod raw {
 
     pub unsafe fn lookup(table: *const u32, numbers: usize, line: u32, col: u32) -> Answer {
         unsafe { pgk_lookup(table, numbers, line, col) }
+    }
+
+    pub unsafe fn meets_premises(mode: Mode, table: *const u32, numbers: usize, sources: u32, names: u32) -> u64 {
+        match mode {
+            Mode::Lenient => unsafe { pgk_meets_premises(table, numbers, sources, names) },
+            Mode::Checked => unsafe { pgk_meets_checked_premises(table, numbers, sources, names) },
+        }
     }
 
     pub unsafe fn translate(table: *mut u32, numbers: usize, line: u32, source: u32, name: u32) -> Answer {

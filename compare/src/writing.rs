@@ -2,8 +2,8 @@
 
 use crate::cases::{Case, Class, EDGES, Random, Tally, met_code};
 use crate::decoding::random_tokens;
-use crate::model::{self, Encoded, NONE, Token, TokenChunk, table_of, tokens_of};
-use crate::ours::{self, LentBytes, writer};
+use crate::model::{self, Encoded, Mode, NONE, Token, TokenChunk, answer, table_of, tokens_of};
+use crate::ours::{self, Entry, Lent, LentBytes, writer};
 use crate::theirs::BUILDS;
 
 pub const LINE_BACK: Class = "write: a line goes back; debug panics, release wraps";
@@ -78,7 +78,8 @@ impl Write {
 }
 
 impl Write {
-    /// The test of the premises against the model; and where it says yes, the crate reads back what the crate writes.
+    /// The test of the premises against the model, in each mode; and where it says yes, the crate reads back what the crate writes. So
+    /// does ours in checked mode where its own test says yes; else a value is too wide.
     fn premises_agree(&self) -> Result<(), String> {
         let largest = |at: usize| {
             let ids = self.table.iter().skip(at).step_by(6).filter(|&&id| id != NONE);
@@ -86,17 +87,31 @@ impl Write {
         };
         let (sources, names) = (largest(4), largest(5));
         for (s, n) in [(sources, names), (sources.max(1) - 1, names), (sources, names.max(1) - 1), (names, sources)] {
-            let (ours, want) = (ours::meets_premises(&self.table, s, n), model::meets_premises(&self.table, s, n));
-            if ours != u64::from(want) {
-                return Err(format!("premises with {s} sources and {n} names: ours {ours}, the model {want}"));
+            let (lenient, checked) = (model::meets_premises(&self.table, s, n), model::meets_checked_premises(&self.table, s, n));
+            for (mode, part, want) in
+                [(Mode::Lenient, "premises, lenient", lenient), (Mode::Checked, "premises, checked", checked)]
+            {
+                let ours = ours::meets_premises(mode, &self.table, s, n);
+                if ours != u64::from(want) {
+                    return Err(format!("{part}, with {s} sources and {n} names: ours {ours}, the model {want}"));
+                }
+                met_code(part, ours);
             }
             let chunk = TokenChunk { end: (self.table.len() / 6) as u32, ..TokenChunk::default() };
-            if want && model::encode(&self.table, chunk, 0).answer.number <= LONG {
+            if lenient && model::encode(&self.table, chunk, 0).answer.number <= LONG {
                 let tokens = tokens_of(&self.table);
                 for build in BUILDS {
-                    let text = (build.encode)(&tokens, chunk).and_then(|text| String::from_utf8(text).ok());
-                    if text.and_then(|text| (build.decode)(&text, s, n)) != Some(Ok(tokens.clone())) {
+                    let text = (build.encode)(&tokens, chunk).and_then(|text| String::from_utf8(text).ok()).unwrap_or_default();
+                    if (build.decode)(&text, s, n) != Some(Ok(tokens.clone())) {
                         return Err(format!("the premises are met, and the {} crate does not read it back", build.name));
+                    }
+                    let mut again = Lent::new(self.table.len());
+                    let (a, count, _) = ours::decode(Entry::Checked, text.as_bytes(), s, n, &mut again);
+                    let back = a == answer(model::DONE, 0) && count as usize == tokens.len() && again.is(&self.table);
+                    if back != checked || (!checked && a.code != model::WIDE_VALUE) {
+                        return Err(format!(
+                            "the test of checked mode's premises says {checked}, and to read it back gives {a:?}"
+                        ));
                     }
                 }
             }
@@ -432,6 +447,53 @@ fn every_step(go: &mut dyn FnMut(Write) -> bool) {
     }
 }
 
+/// One number of a token by steps around 2^31, up and down, from each edge: on the same line and on the next, with a token between
+/// them that has no name or no source, and with a name and without. The way to the edge has no step of 2^31 or more.
+fn limit_steps(go: &mut dyn FnMut(Write) -> bool) {
+    let way = |to: u32| (1..=3u64).map(move |k| (k * 0x7fff_ffff).min(u64::from(to)) as u32);
+    for field in 1..6 {
+        for from in EDGES {
+            for step in [0u32, 1, 0x7fff_fffe, 0x7fff_ffff, 0x8000_0000, 0x8000_0001, 0xffff_fffe] {
+                for to in [from.checked_add(step), from.checked_sub(step)].into_iter().flatten() {
+                    for (between, line) in (0..12).map(|k| (k % 6, k / 6)) {
+                        let at = |dst_line: u32, number: u32| {
+                            let mut numbers = [dst_line, 3, 3, 3, 0, 0];
+                            numbers[field] = number;
+                            Token::of(&numbers)
+                        };
+                        let mut tokens: Vec<Token> = way(from).map(|number| at(0, number)).collect();
+                        let mut middle = at(0, from);
+                        match between {
+                            1 => middle = Token { source_id: NONE, name_id: NONE, ..middle },
+                            2 => middle = Token { name_id: NONE, ..middle },
+                            3 => middle = Token { source_id: NONE, name_id: NONE, ..at(1, from) },
+                            _ => {}
+                        }
+                        let mut last = at(middle.dst_line + line, to);
+                        if between == 4 {
+                            last.name_id = NONE;
+                        }
+                        if between == 5 {
+                            last = Token {
+                                source_id: NONE,
+                                name_id: NONE,
+                                src_line: middle.src_line,
+                                src_col: middle.src_col,
+                                ..last
+                            };
+                        }
+                        tokens.extend([middle, last]);
+                        let chunk = TokenChunk { end: tokens.len() as u32, ..TokenChunk::default() };
+                        if !go(Write { table: table_of(&tokens), chunk }) {
+                            return;
+                        }
+                    }
+                }
+            }
+        }
+    }
+}
+
 /// The crate's number for a difference, which its digits spell.
 #[derive(Clone, Debug)]
 struct Difference(u32, u32);
@@ -471,6 +533,7 @@ pub fn run(tally: &mut Tally, seed: u64, scale: usize) {
         }
     });
     tally.group("write: every step of two digits", every_step);
+    tally.group("write: steps around checked mode's limit", limit_steps);
     tally.group("write: small lists, every chunk", small_lists);
     tally.group("write: every cut of small lists", |go| every_cut(&mut Random::new(seed, "cuts"), 3_000 * scale, go));
     tally.group("write: extreme numbers", |go| edges(&mut Random::new(seed, "extreme"), 150_000 * scale, go));

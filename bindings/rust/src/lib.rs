@@ -25,9 +25,9 @@
 //! column all the same; they say nothing of it and must not be shown. Test [`Token::get_source_id`] first.
 //!
 //! # Which decode
-//! [`decode_checked`] is the one for a screen: it refuses a number that leaves 32 bits. [`decode_lenient`], and
-//! [`decode_mapping`], which names no mode, drop the upper bits, as oxc_sourcemap does. A refused map must not be
-//! looked up, although the tokens before the refused segment are in the table.
+//! [`decode_checked`] is the one for a screen: it takes each value as ECMA-426 does and refuses a number that is too
+//! wide. [`decode_lenient`], and [`decode_mapping`], which names no mode, drop the upper bits, as oxc_sourcemap does. A
+//! refused map must not be looked up, although the tokens before the refused segment are in the table.
 //!
 //! # Tables
 //! A table is a list of `u32`, six a token, in the order of [`Token`]'s fields. [`NONE`] as an id means none.
@@ -40,7 +40,7 @@
 //! # Writing back
 //! A text that was decoded and is written again comes back without the `;` at its end and without empty segments:
 //! no token tells of them. Whether a table that was made, translated or composed reads back as it was written,
-//! [`meets_premises`] says.
+//! [`meets_premises`] says for lenient mode, and [`meets_checked_premises`] for both.
 //!
 //! # Cost
 //! A lookup reads the line of every token, 0.4 to 1.2 ns each. [`compose`] does one lookup for each outer token with
@@ -71,7 +71,7 @@ pub use refusal::{Refusal, Stop};
 pub use token::{table_of, table_of_mut, tokens_of, written, Token, TokenChunk, NONE, WIDTH};
 
 /// The version of this crate: major × 1,000,000 + minor × 1,000 + patch.
-pub const VERSION: u64 = 3000;
+pub const VERSION: u64 = 4000;
 
 /// The version of the archive that was linked. Where it is not [`VERSION`], `PEGHAYRICK_LIB_DIR` named another version's.
 ///
@@ -164,19 +164,38 @@ pub fn decode_lenient(mappings: &[u8], sources: u32, names: u32, table: &mut [u3
     })
 }
 
-/// Decodes as [`decode_mapping`] does, and refuses a column, line or name id that leaves 32 bits as
-/// [`WideValue`](Refusal::WideValue). This is the decode for a screen, and wherever a wrong position does harm.
+/// Decodes as [`decode_mapping`] does, but takes each value as ECMA-426 does, by all of its digits: a magnitude of 2^31 or
+/// more is refused as [`WideValue`](Refusal::WideValue), and minus zero (`B`, `hA`) is -2^31, by which most sums fall below 0.
+/// A column, line or name id that leaves 32 bits is refused as [`WideValue`](Refusal::WideValue) too. This is the decode for a
+/// screen, and wherever a wrong position does harm.
+///
+/// It refuses texts that [`decode_lenient`] takes; where a text has minus zero, it may also take what that refuses, or
+/// give other positions.
 ///
 /// ```
-/// use peghayrick::{decode_checked, Refusal, Stop};
-/// let mut table = [7u32; 6];
-/// let refusal = decode_checked(b"ggggggI", 0, 0, &mut table).unwrap_err();
+/// use peghayrick::{decode_checked, decode_lenient, Refusal, Stop};
+/// let mut table = [7u32; 18];
+/// // The largest value, 2^31 - 1, and the next.
+/// assert!(decode_checked(b"+/////D", 0, 0, &mut table).is_ok());
+/// let refusal = decode_checked(b"ggggggE", 0, 0, &mut table).unwrap_err();
 /// assert_eq!(refusal, Refusal::WideValue { field: 0, at: Stop { tokens: 0, offset: 0 } });
-/// assert_eq!(table, [7; 6]);
+///
+/// // Values that are taken one by one, and a sum that is not.
+/// let refusal = decode_checked(b"+/////D,+/////D,E", 0, 0, &mut table).unwrap_err();
+/// assert_eq!(refusal, Refusal::WideValue { field: 0, at: Stop { tokens: 2, offset: 16 } });
+///
+/// // Minus zero: from column 0 it falls below 0, from column 2^31 it leads to 0.
+/// let refusal = decode_checked(b"B", 0, 0, &mut table).unwrap_err();
+/// assert_eq!(refusal, Refusal::BadSegmentSize { fields: 0, at: Stop { tokens: 0, offset: 0 } });
+/// assert!(decode_checked(b"+/////D,C,B", 0, 0, &mut table).is_ok());
+/// assert_eq!(table[13], 0);
+/// assert!(decode_lenient(b"+/////D,C,B", 0, 0, &mut table).is_ok());
+/// assert_eq!(table[13], 1 << 31);
 /// ```
 ///
 /// # Errors
-/// As [`decode_mapping`], and [`WideValue`](Refusal::WideValue) after a sum's own test below 0.
+/// As [`decode_mapping`], and [`WideValue`](Refusal::WideValue): for one of a segment's first five values once they are all
+/// read, before its column and its count; for a sum after the sum's own test below 0.
 pub fn decode_checked(mappings: &[u8], sources: u32, names: u32, table: &mut [u32]) -> Result<Decoded, Refusal> {
     // SAFETY: as in decode_mapping.
     decoded(unsafe {
@@ -251,6 +270,49 @@ pub fn serialize_mappings(table: &[u32], chunk: TokenChunk, out: &mut [u8]) -> R
 pub fn meets_premises(table: &[u32], sources: u32, names: u32) -> bool {
     // SAFETY: the slice is lent with its own pointer and length for the call.
     unsafe { raw::pgk_meets_premises(table.as_ptr(), table.len(), sources, names) == 1 }
+}
+
+/// Whether what [`serialize_mappings`] writes of the whole table surely reads back in checked mode too, by these counts: the
+/// table [meets the premises](meets_premises), and each step that is written is below 2^31, up or down. There is a step to
+/// each generated column (on a new line from 0), with a source to the source id, line and column (from the latest token with
+/// one, 0 before any), and with a name to the name id (from the latest that is written). `false` for a bad table.
+///
+/// Where [`meets_premises`] alone says `true`, [`decode_checked`] refuses what is written as
+/// [`WideValue`](Refusal::WideValue): ask before a screen relies on it. A table that was decoded in checked mode may have a
+/// step of -2^31 too, from minus zero.
+///
+/// ```
+/// use peghayrick::*;
+///
+/// /// The mappings of a table for the controller, which reads them in checked mode; `None` where it would not.
+/// fn exported(table: &[u32], sources: u32, names: u32) -> Option<Vec<u8>> {
+///     if !meets_checked_premises(table, sources, names) {
+///         return None;
+///     }
+///     let count = (table.len() / WIDTH) as u32;
+///     let lines = table.chunks(WIDTH).last().map_or(0, |token| token[0]);
+///     let mut out = vec![0; 36 * count as usize + lines as usize];
+///     let encoded = serialize_mappings(table, TokenChunk::first(count), &mut out).ok()?;
+///     out.truncate(encoded.bytes);
+///     Some(out)
+/// }
+///
+/// let wash = Token::new(0, 0, 2, 3, Some(0), None);
+/// let spin = Token::new(0, 8, 4, 3, Some(0), None);
+/// assert_eq!(exported(table_of(&[wash, spin]), 1, 0).as_deref(), Some(&b"AAEG,QAEA"[..]));
+///
+/// // A tool has put a column 2^31 too far: lenient mode reads it back, and checked mode refuses it.
+/// let far = [wash, Token::new(0, 1 << 31, 4, 3, Some(0), None)];
+/// assert!(meets_premises(table_of(&far), 1, 0));
+/// assert!(!meets_checked_premises(table_of(&far), 1, 0));
+/// assert_eq!(exported(table_of(&far), 1, 0), None);
+///
+/// // It is the step that counts: behind another token the same column is written by less.
+/// assert!(meets_checked_premises(table_of(&[wash, spin, far[1]]), 1, 0));
+/// ```
+pub fn meets_checked_premises(table: &[u32], sources: u32, names: u32) -> bool {
+    // SAFETY: the slice is lent with its own pointer and length for the call.
+    unsafe { raw::pgk_meets_checked_premises(table.as_ptr(), table.len(), sources, names) == 1 }
 }
 
 /// Adds `line_offset` to each generated line, and the other offsets to each id that is not none.

@@ -80,6 +80,7 @@ extern "C" {
     ) -> Decoded;
     pub fn pgk_encode(table: *const u32, table_len: usize, chunk: TokenChunk, out: *mut u8, out_len: usize) -> Encoded;
     pub fn pgk_meets_premises(table: *const u32, table_len: usize, sources: u32, names: u32) -> u64;
+    pub fn pgk_meets_checked_premises(table: *const u32, table_len: usize, sources: u32, names: u32) -> u64;
     pub fn pgk_translate(table: *mut u32, table_len: usize, line_offset: u32, source_offset: u32, name_offset: u32) -> Answer;
     pub fn pgk_translate_tokens(
         tokens: *mut Token,

@@ -8,7 +8,7 @@ pub struct Stop {
     /// How many tokens were written: those before the refused segment.
     pub tokens: usize,
     /// The byte at fault: where a digit was due (VlqLeftover), the fourteenth digit (VlqOverflow), the first digit of the field
-    /// that falls below 0, refers to nothing or leaves 32 bits, or the first digit of the segment (a wrong count, TableFull).
+    /// that falls below 0, refers to nothing or is too wide, or the first digit of the segment (a wrong count, TableFull).
     /// The refused segment begins behind the last `,` or `;` before it, or with the text where there is none.
     pub offset: usize,
 }
@@ -63,7 +63,8 @@ pub enum Refusal {
         /// Where the decode stopped.
         at: Stop,
     },
-    /// 6: a number leaves 32 bits (checked mode only).
+    /// 6: a number is too wide (checked mode only): a value of magnitude 2^31 or more in one of a segment's first five fields,
+    /// a column, line or name id of 2^32 or more, or a name id below 0.
     WideValue {
         /// The field: 0 generated column, 1 source, 2 source line, 3 source column, 4 name.
         field: u32,
@@ -252,10 +253,11 @@ impl fmt::Display for Refusal {
                 (3, n) => write!(f, "a segment has {n} field{}, not 1, 4 or 5", if n == 1 { "" } else { "s" })?,
                 (4, n) => write!(f, "a segment refers to a source that the map does not list (the source before it is {n})")?,
                 (5, n) => write!(f, "a segment refers to name {n}, which the map does not list")?,
-                (_, 0) => f.write_str("a generated column does not fit into 32 bits")?,
-                (_, 2) => f.write_str("a source line does not fit into 32 bits")?,
-                (_, 3) => f.write_str("a source column does not fit into 32 bits")?,
-                (_, 4) => f.write_str("a name id does not fit into 32 bits")?,
+                (_, 0) => f.write_str("a generated column or the step to it does not fit into 32 bits")?,
+                (_, 1) => f.write_str("the step to a source does not fit into 32 bits")?,
+                (_, 2) => f.write_str("a source line or the step to it does not fit into 32 bits")?,
+                (_, 3) => f.write_str("a source column or the step to it does not fit into 32 bits")?,
+                (_, 4) => f.write_str("a name id or the step to it does not fit into 32 bits")?,
                 (_, n) => write!(f, "field {n} of a segment does not fit into 32 bits")?,
             }
             let s = if at.tokens == 1 { "" } else { "s" };

@@ -62,12 +62,14 @@ fn no_table_of_that_size_is_full() {
     assert!(done > 1000 && refused > 1000, "{done} {refused}");
 }
 
-/// Written and read again, leniently.
-fn again(tokens: &[Token], sources: u32, names: u32) -> Result<Vec<Token>, Refusal> {
+type Decode = fn(&[u8], u32, u32, &mut [u32]) -> Result<Decoded, Refusal>;
+
+/// Written and read again.
+fn again(decode: Decode, tokens: &[Token], sources: u32, names: u32) -> Result<Vec<Token>, Refusal> {
     let mut out = vec![0; 36 * tokens.len() + 9];
     let encoded = serialize_mappings(table_of(tokens), TokenChunk::first(tokens.len() as u32), &mut out)?;
     let mut table = vec![0; table_size(&out[..encoded.bytes])];
-    let decoded = decode_lenient(&out[..encoded.bytes], sources, names, &mut table)?;
+    let decoded = decode(&out[..encoded.bytes], sources, names, &mut table)?;
     Ok(tokens_of(written(&table, decoded.tokens)).to_vec())
 }
 
@@ -89,10 +91,55 @@ fn premises() {
         (vec![Token::new(1, 0, 0, 0, Some(0), None), source], false),
     ] {
         assert_eq!(meets_premises(table_of(&tokens), 2, 3), meets, "{tokens:?}");
+        assert_eq!(meets_checked_premises(table_of(&tokens), 2, 3), meets, "{tokens:?}");
         // Each of these that does not meet them is refused, or reads back as something else.
-        assert_eq!(again(&tokens, 2, 3).as_ref() == Ok(&tokens), meets, "{tokens:?}");
+        for decode in [decode_lenient as Decode, decode_checked] {
+            assert_eq!(again(decode, &tokens, 2, 3).as_ref() == Ok(&tokens), meets, "{tokens:?}");
+        }
     }
     assert!(!meets_premises(&table_of(&[source])[..5], 2, 3));
+    assert!(!meets_checked_premises(&table_of(&[source])[..5], 2, 3));
+}
+
+/// A step of one number, up and down: 2^31 - 1 is the last that checked mode reads back.
+#[test]
+fn premises_of_checked_mode() {
+    const MOST: u32 = (1 << 31) - 1;
+    let token = |field: usize, number: u32| {
+        let mut numbers = [0, 5, 5, 5, 5, 5];
+        numbers[field] = number;
+        tokens_of(&numbers)[0]
+    };
+    for field in 1..6 {
+        for (ways, meets) in [
+            (&[MOST][..], true),
+            (&[MOST + 1], false),
+            (&[MOST, 2 * MOST], true),
+            (&[7, MOST + 7], true),
+            (&[7, MOST + 8], false),
+            (&[MOST, 0], true),
+            (&[MOST, MOST + 1, 1], true),
+            (&[MOST, MOST + 1, 0], false),
+        ] {
+            let tokens: Vec<Token> = ways.iter().map(|&number| token(field, number)).collect();
+            let table = table_of(&tokens);
+            assert!(meets_premises(table, NONE, NONE));
+            assert_eq!(meets_checked_premises(table, NONE, NONE), meets, "{tokens:?}");
+            assert_eq!(again(decode_lenient, &tokens, NONE, NONE).as_ref(), Ok(&tokens));
+            match again(decode_checked, &tokens, NONE, NONE) {
+                Ok(read) => assert!(meets && read == tokens, "{tokens:?}"),
+                Err(refusal) => assert_eq!((refusal.code(), meets), (6, false), "{tokens:?}"),
+            }
+        }
+    }
+    // A line begins at column 0; what is not written has no step.
+    let line = |dst_line, dst_col| Token::new(dst_line, dst_col, 0, 0, None, None);
+    assert!(meets_checked_premises(table_of(&[line(0, MOST), line(0, MOST + 9), line(1, 0)]), 0, 0));
+    assert!(!meets_checked_premises(table_of(&[line(0, MOST), line(0, MOST + 9), line(0, 0)]), 0, 0));
+    // What checked mode took need not read back in it: minus zero is a step of -2^31.
+    let mut table = [0; 18];
+    assert!(decode_checked(b"+/////D,C,B", 0, 0, &mut table).is_ok());
+    assert!(meets_premises(&table, 0, 0) && !meets_checked_premises(&table, 0, 0));
 }
 
 #[test]

@@ -55,12 +55,35 @@ fn decoding() {
     holds(second("AAAAD", false), lost, 5, 4294967295, Some(at(9)), "name 4294967295");
     for (segment, field, offset, says) in [
         ("ggggggI", 0, 5, "byte 5: a generated column"),
+        ("ggggggE", 0, 5, "byte 5: a generated column or the step to it"),
+        ("hgggggE", 0, 5, "byte 5: a generated column"),
+        ("+/////H", 0, 5, "byte 5: a generated column"),
+        ("ggggggggggggQ", 0, 5, "byte 5: a generated column"),
+        ("AggggggEAA", 1, 6, "byte 6: the step to a source"),
         ("AAggggggIA", 2, 7, "byte 7: a source line"),
         ("AAAggggggI", 3, 8, "byte 8: a source column"),
+        ("AAAAggggggE", 4, 9, "byte 9: a name id or the step to it"),
         ("AAAAD", 4, 9, "byte 9: a name id"),
+        ("AAAAB", 4, 9, "byte 9: a name id"),
+        // Before the column, before the count, and the first of two.
+        ("DggggggEAA", 1, 6, "byte 6: the step to a source"),
+        ("AggggggE", 1, 6, "byte 6: the step to a source"),
+        ("AAAAggggggEA", 4, 9, "byte 9: a name id"),
+        ("AAggggggEggggggE", 2, 7, "byte 7: a source line"),
     ] {
         let wide = Refusal::WideValue { field, at: at(offset) };
         holds(second(segment, true), wide, 6, u64::from(field), Some(at(offset)), says);
+    }
+    // Minus zero falls below 0, a sixth field is not judged, and a value that breaks comes first.
+    for (segment, want, number) in [
+        ("B", Refusal::BadSegmentSize { fields: 0, at: at(5) }, 0),
+        ("hA", Refusal::BadSegmentSize { fields: 0, at: at(5) }, 0),
+        ("AAAAAggggggE", Refusal::BadSegmentSize { fields: 6, at: at(5) }, 6),
+        ("ggggggEg", Refusal::VlqLeftover { at: at(13) }, 0),
+        ("ggggggEgggggggggggggA", Refusal::VlqOverflow { at: at(25) }, 0),
+    ] {
+        assert_eq!(second(segment, true), want, "{segment}");
+        assert_eq!(want.number(), number);
     }
     let full = decode_mapping(b"AAAA,A", 1, 0, &mut [7; 11]).unwrap_err();
     holds(full, Refusal::TableFull { at: Some(AT) }, 7, 0, Some(AT), "as many numbers as table_size counts");

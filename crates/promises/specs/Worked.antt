@@ -7,8 +7,10 @@ use Rattle.token.specs.Table.{noId, token}
 use Rattle.token.specs.declared.Token.{Token}
 use Rattle.digits.specs.Digits.{digitOf, isDelim}
 use Rattle.value.specs.Standard.{tooWide, signed}
+use Rattle.value.specs.Standard.{tooWide, signed}
 use Rattle.value.specs.Value.{valueOf}
 use Rattle.value.specs.declared.Mode.{Mode}
+use Rattle.value.specs.declared.Judged.{Judged}
 use Rattle.value.specs.declared.Judged.{Judged}
 use lib.IntN.{negsuc}
 use Rattle.vlq.specs.Vlq.{digitsFrom, vlqOf, vlqAt}
@@ -62,6 +64,8 @@ worked =
     alike (65 ∷ 65 ∷ 65 ∷ 65 ∷ 65 ∷ 65 ∷ []) 1 1 (out [] (Code.BadSegmentSize 6) 0) ∷
     -- `+/////D`: column 2147483647, both modes
     alike (43 ∷ 47 ∷ 47 ∷ 47 ∷ 47 ∷ 47 ∷ 68 ∷ []) 0 0 (out (token 0 2147483647 0 0 noId noId ∷ []) Code.Done 7) ∷
+    -- six `g`, `E`: column 2147483648; checked 6 with 0, at 0
+    rowOf (103 ∷ 103 ∷ 103 ∷ 103 ∷ 103 ∷ 103 ∷ 69 ∷ []) 0 0 (out (token 0 2147483648 0 0 noId noId ∷ []) Code.Done 7) (out [] (Code.WideValue 0) 0) ∷
     -- `+/////H`: column 4294967295; checked 6 with 0, at 0
     rowOf (43 ∷ 47 ∷ 47 ∷ 47 ∷ 47 ∷ 47 ∷ 72 ∷ []) 0 0 (out (token 0 4294967295 0 0 noId noId ∷ []) Code.Done 7) (out [] (Code.WideValue 0) 0) ∷
     -- six `g`, `I`: column 0; checked 6 with 0, at 0
@@ -115,7 +119,7 @@ Each (r ∷ rs) = Holds r × Each rs
 pub worked-texts : Each worked
 unfolding digitOf isDelim tooWide signed valueOf digitsFrom vlqOf fieldsFrom wideFrom reducedOf sumOf idOf nameSumOf columned mapped named four five counted applied offsetOf segmentStep stepFrom run
 worked-texts =
-    ((refl, refl), ((refl, refl), ((refl, refl), ((refl, refl), ((refl, refl), ((refl, refl), ((refl, refl), ((refl, refl), ((refl, refl), ((refl, refl), ((refl, refl), ((refl, refl), ((refl, refl), ((refl, refl), ((refl, refl), ((refl, refl), ((refl, refl), ((refl, refl), ((refl, refl), ((refl, refl), ((refl, refl), ((refl, refl), ((refl, refl), ((refl, refl), ((refl, refl), ((refl, refl), ((refl, refl), ((refl, refl), ((refl, refl), ((refl, refl), ((refl, refl), ((refl, refl), tt))))))))))))))))))))))))))))))))
+    ((refl, refl), ((refl, refl), ((refl, refl), ((refl, refl), ((refl, refl), ((refl, refl), ((refl, refl), ((refl, refl), ((refl, refl), ((refl, refl), ((refl, refl), ((refl, refl), ((refl, refl), ((refl, refl), ((refl, refl), ((refl, refl), ((refl, refl), ((refl, refl), ((refl, refl), ((refl, refl), ((refl, refl), ((refl, refl), ((refl, refl), ((refl, refl), ((refl, refl), ((refl, refl), ((refl, refl), ((refl, refl), ((refl, refl), ((refl, refl), ((refl, refl), ((refl, refl), ((refl, refl), tt)))))))))))))))))))))))))))))))))
 
 -- `!A`: the bytes read as 63 and 0, so the number is 31, and the value -15 in both modes
 pub value-of-a-bad-byte : (vlqAt (33 ∷ 65 ∷ []) 0 ≡ Vlq.Value 31 0 2) × ((valueOf Mode.Lenient 31 0 ≡ Judged.Is (negsuc 14)) × (valueOf Mode.Checked 31 0 ≡ Judged.Is (negsuc 14)))

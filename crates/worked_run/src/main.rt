@@ -70,6 +70,7 @@ fn main() {
     row(b"AAA", 1, 0);
     row(b"AAAAAA", 1, 1);
     row(b"+/////D", 0, 0);
+    row(b"ggggggE", 0, 0);
     row(b"+/////H", 0, 0);
     row(b"ggggggI", 0, 0);
     row(b"AAggggggIA", 1, 0);

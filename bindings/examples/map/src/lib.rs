@@ -1,8 +1,9 @@
 //! A source map as JSON over the mapping core: what `SourceMap::from_json_string`, `lookup_source_view_token` and
 //! `to_json_string` of oxc_sourcemap 9.0.0 did. An example to take and change.
 //!
-//! Differences from the crate: numbers that leave 32 bits are refused (checked mode); a position whose token has no source
-//! has no step, where the crate hands out a token with a source position that means nothing; strings are owned.
+//! Differences from the crate: values are taken as ECMA-426 has them, and numbers that leave 32 bits are refused (checked
+//! mode); a position whose token has no source has no step, where the crate hands out a token with a source position that
+//! means nothing; strings are owned.
 //!
 //! ```
 //! use peghayrick_map::{Map, Step};
@@ -197,7 +198,8 @@ impl Map {
         }))
     }
 
-    /// The mappings. They are those that were read, but for `;` at the end and empty segments, of which no token tells.
+    /// The mappings. They are those that were read, but for `;` at the end and empty segments, of which no token tells. A step
+    /// of -2^31, which minus zero is, is written as a value that checked mode refuses.
     ///
     /// # Errors
     /// [`Error::Refused`] where a line goes back, which a text of 4 GiB can bring about.

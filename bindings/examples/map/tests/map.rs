@@ -95,7 +95,7 @@ fn what_may_be_missing() {
 
 #[test]
 fn mappings_that_are_not_written_as_they_stand() {
-    for (from, to) in [("AAAA;;", "AAAA"), ("AAAA,,A", "AAAA,A"), (",AAAA", "AAAA"), ("BAAA", "AAAA"), ("gAAAA", "AAAA")] {
+    for (from, to) in [("AAAA;;", "AAAA"), ("AAAA,,A", "AAAA,A"), (",AAAA", "AAAA"), ("gAAAA", "AAAA")] {
         let map = read(&with("mappings", json!(from))).unwrap();
         assert_eq!(map.mappings().unwrap(), to);
         assert_eq!(read(&with("mappings", json!(to))).unwrap().tokens(), map.tokens());
@@ -142,5 +142,8 @@ fn refusals() {
     assert_eq!(refused("AAAA,AAAAG"), Refusal::BadNameReference { name_id: 3, at: at(9) });
     // The crate drops the upper bits, and shows column 0.
     assert_eq!(refused("AAAA,ggggggI"), Refusal::WideValue { field: 0, at: at(5) });
+    // The crate takes a value of 2^31, and minus zero as 0.
+    assert_eq!(refused("AAAA,ggggggE"), Refusal::WideValue { field: 0, at: at(5) });
+    assert_eq!(refused("AAAA,B"), Refusal::BadSegmentSize { fields: 0, at: at(5) });
     assert!(read(&with("mappings", json!("AAAA,AAA"))).unwrap_err().to_string().contains("build the bundle and its map again"));
 }

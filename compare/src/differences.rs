@@ -41,9 +41,8 @@ fn decoding(build: &Build) -> Result<(), String> {
     same("name, the crate", (build.decode)("AAAAD", 1, 1), Some(Err(lost)))?;
     // From ECMA-426: where checked mode judges a value as the standard does, and where it does not either.
     let wide = answer(model::WIDE_VALUE, 0);
-    for (text, col, checked) in
-        [("B", 0, answer(model::BAD_SEGMENT_SIZE, 0)), ("ggggggE", 1 << 31, wide), ("ggggggggggggQ", 0, wide)]
-    {
+    let below = answer(model::BAD_SEGMENT_SIZE, 0);
+    for (text, col, checked) in [("B", 0, below), ("hA", 0, below), ("ggggggE", 1 << 31, wide), ("ggggggggggggQ", 0, wide)] {
         same(text, (build.decode)(text, 0, 0), Some(Ok(vec![at(0, col)])))?;
         let mut table = Lent::new(6);
         let done = (answer(model::DONE, 0), 1, text.len() as u64);
@@ -51,6 +50,9 @@ fn decoding(build: &Build) -> Result<(), String> {
         same(text, table.is(&table_of(&[at(0, col)])), true)?;
         same(text, ours_decode(Entry::Checked, text.as_bytes(), 0, 0, 6), (checked, 0, 0))?;
     }
+    let sixth = answer(model::BAD_SEGMENT_SIZE, 6);
+    same("a sixth field", ours_decode(Entry::Checked, b"AAAAA+/////H", 1, 1, 6), (sixth, 0, 0))?;
+    same("a sixth field, the crate", (build.decode)("AAAAA+/////H", 1, 1), Some(Err(sixth)))?;
     let none: &[Token] = &[];
     for (text, sources, tokens) in [
         (",", 0, none),

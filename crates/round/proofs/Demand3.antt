@@ -53,7 +53,7 @@ refuses : (sources names : ℕ) (xs text : List ℕ) → SoundTable sources name
 refuses sources names xs text s k q table d table′ l w =
     let n : length (tokensOf xs) ≡ places (length xs) = length-tokens xs 0 (places (length xs)) in
     let m : length (tokensOf xs) ≤ places (length table) = omega (arith, n, l) in
-    let o : Outcome (fresh 0 0) (tokensOf xs) (decoded Mode.Checked sources names text (places (length table)))
+    let o : Outcome 0 0 (fresh 0 0) (tokensOf xs) (decoded Mode.Checked sources names text (places (length table)))
     = rw q (refused sources names (places (length table)) (tokensOf xs) (sound-tokens sources names xs s) k m) in
     record {
       before = o .before;
@@ -61,6 +61,7 @@ refuses sources names xs text s k q table d table′ l w =
       stopped = o .first;
       code = ap (λ (r : Decoded). r .code) (w .says) ∙ o .code;
       tokens = ap (λ (r : Decoded). r .tokens) (w .says) ∙ ap length (o .tokens);
+      offset = ap (λ (r : Decoded). r .offset) (w .says) ∙ o .offset ∙ omega arith;
       wrote = w .wrote ∙ ap (λ (ts : List Token). over ts table) (o .tokens);
     }
 

@@ -2,10 +2,10 @@
 use mathlib.Core.Path.{_≡_, refl, sym, _∙_, ap}
 use mathlib.Core.Bool.{true}
 use mathlib.Core.List.{List, [], _∷_, _++_, append-assoc}
-use Prim.Native.Nat.{ℕ, suc, _+_, _-_, _^_, _<_, _≤_}
+use Prim.Native.Nat.{ℕ, zero, suc, _+_, _-_, _^_, _<_, _≤_}
 use native.Mathlib.Nat.{add-zero}
 use native.Mathlib.Omega.{arith}
-use lib.ListN.{length, length-append}
+use lib.ListN.{length, take, getD, length-append}
 use lib.Seq.{drop-append-seam}
 use Rattle.digits.specs.Digits.{isDelim}
 use Rattle.value.specs.Value.{valueOf}
@@ -13,7 +13,7 @@ use Rattle.value.specs.declared.Mode.{Mode}
 use Rattle.vlq.specs.Vlq.{vlqOf}
 use Rattle.vlq.specs.declared.Vlq.the-variants.{Value}
 use Rattle.vlq_write.specs.Write.{writeOf}
-use Rattle.segment.specs.Segment.{Field, whole, before, fieldsFrom}
+use Rattle.segment.specs.Segment.{Field, whole, before, starts, fieldsFrom}
 use Rattle.segment.proofs.Reach.{fields-skip}
 use Rattle.chunk.specs.Chunk.{spelled}
 use Rattle.round.proofs.Value.{head, value-back}
@@ -67,3 +67,11 @@ fields-back mode at (v ∷ vs) rest s h =
     ∙ fields-value mode at v (spelled vs ++ rest) (s .0)
     ∙ ap (before f) (fields-back mode (at + length (writeOf v)) vs rest (s .1) h)
     ∙ ap (whole (f ∷ fieldsAt mode (at + length (writeOf v)) vs)) l
+
+-- where such a field begins: behind the digits of those before it
+pub begins-at : (mode : Mode) (at z : ℕ) (vs : List ℕ) (n : ℕ) → n < length vs → getD (starts (fieldsAt mode at vs)) n z ≡ at + length (spelled (take n vs))
+unfolding spelled
+begins-at mode at z [] n h = absurd (omega arith)
+begins-at mode at z (v ∷ vs) zero h = omega arith
+begins-at mode at z (v ∷ vs) (suc n) h =
+    begins-at mode (at + length (writeOf v)) z vs n (omega arith) ∙ simp length-append (omega arith)

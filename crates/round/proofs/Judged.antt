@@ -42,7 +42,7 @@ none-off mode (v ∷ vs) i at k = by (takes mode v) refl (none-off mode vs (i + 
     by false e ih k = let z : _≡_ {A = ℕ} 0 1 = cc in absurd (omega (arith, z))
 
 -- the first that checked mode does not take is one of them
-off-less : (vs : List ℕ) → takesEach Checked vs ≡ false → firstOff vs < length vs
+pub off-less : (vs : List ℕ) → takesEach Checked vs ≡ false → firstOff vs < length vs
 unfolding takesEach firstOff
 off-less [] k = let z : _≡_ {A = ℕ} 0 1 = cc in absurd (omega (arith, z))
 off-less (v ∷ vs) k = by (takes Checked v) (off-less vs) k

@@ -41,7 +41,7 @@ pub back : (mode : Mode) (sources names room : ℕ) (ts : List Token) → Sound 
 back mode sources names room ts s k l = run-back mode sources names ts (textOf ts) room 0 0 (fresh 0 0) zeros-held (s .fits) (s .meets) k l refl
 
 pub refused : (sources names room : ℕ) (ts : List Token) → Sound sources names ts → takesAll Mode.Checked ts ≡ false → length ts ≤ room
-    → Outcome (fresh 0 0) ts (decoded Mode.Checked sources names (textOf ts) room)
+    → Outcome 0 0 (fresh 0 0) ts (decoded Mode.Checked sources names (textOf ts) room)
 refused sources names room ts s k l = run-stops sources names ts (textOf ts) room 0 0 (fresh 0 0) zeros-held (s .fits) (s .meets) k l refl
 
 -- ---- lenient mode takes every value

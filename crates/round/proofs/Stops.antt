@@ -4,9 +4,9 @@ use mathlib.Core.Bool.{Bool, true, false}
 use mathlib.Core.List.{List, [], _∷_}
 use Prim.Native.Nat.{ℕ, zero, suc, _+_, _≤_}
 use native.Mathlib.Omega.{arith}
-use native.Mathlib.Nat.{not-suc-le-zero}
+use native.Mathlib.Nat.{not-suc-le-zero, add-zero}
 use lib.Dec.{eqb}
-use lib.ListN.{length, drop}
+use lib.ListN.{length, drop, length-append}
 use lib.Seq.{drop-drop, drop-append-seam}
 use Rattle.list.specs.Pick.{both}
 use Rattle.code.specs.declared.Code.{Code}
@@ -16,29 +16,33 @@ use Rattle.token.specs.declared.TokenChunk.{TokenChunk}
 use Rattle.value.specs.declared.Mode.{Mode}
 use Rattle.apply.specs.declared.State.{State}
 use Rattle.step.specs.declared.Step.{Step}
-use Rattle.step.specs.Step.{stepFrom, stepAt}
+use Rattle.step.specs.Step.{offsetOf, stepFrom, stepAt}
 use Rattle.decode.specs.Mapping.{Out, stopped, tokenThen, run}
 use Rattle.chunk.specs.Chunk.{lead, fieldsOf, bytesOf, after, written, endOf}
 use Rattle.premises.specs.Premises.{fits32}
 use Rattle.checked_premises.specs.Checked.{takesEach, takesFrom}
-use Rattle.round.specs.Terms.{firstOff, Stopped}
+use Rattle.round.specs.Terms.{firstOff, Stopped, bytesBefore}
+use Rattle.round.proofs.Fields.{begins-at}
+use Rattle.round.proofs.Judged.{off-less}
 use Rattle.round.proofs.Facts.{Held, held-after, Meets, meets-after}
 use Rattle.round.proofs.Taken.{stateOf, readable, stops}
 use Rattle.round.proofs.Run.{step-bytes, step-token, ends-next, fits-after, run-put}
 
 -- the outcome of decoding tokens after a state
-pub record Outcome (p : TokenChunk) (ts : List Token) (o : Out) : Type 0 where
+pub record Outcome (i at : ℕ) (p : TokenChunk) (ts : List Token) (o : Out) : Type 0 where
   pub before : List Token
   pub t : Token
   pub first : Stopped p ts before t
   pub code : o .code ≡ Code.WideValue (firstOff (fieldsOf (endOf p before) t))
   pub tokens : o .tokens ≡ before
+  pub offset : o .offset ≡ at + bytesBefore i p before t
 
 -- a token that is taken, before it
-later : (p : TokenChunk) (t : Token) (ts : List Token) (o : Out) → takesEach Mode.Checked (fieldsOf p t) ≡ true → Outcome (after p t) ts o
-    → Outcome p (t ∷ ts) (tokenThen t o)
-unfolding takesFrom endOf
-later p t ts o k r =
+later : (i at : ℕ) (p : TokenChunk) (t : Token) (ts : List Token) (o : Out) → takesEach Mode.Checked (fieldsOf p t) ≡ true
+    → Outcome (i + 1) (at + length (bytesOf (eqb i 0) p t)) (after p t) ts o → Outcome i at p (t ∷ ts) (tokenThen t o)
+unfolding takesFrom endOf written
+later i at p t ts o k r =
+    let n : i + length (t ∷ r .before) ≡ i + 1 + length (r .before) = omega arith in
     record {
       before = t ∷ r .before;
       t = r .t;
@@ -51,6 +55,7 @@ later p t ts o k r =
           };
       code = r .code;
       tokens = ap (λ (l : List Token). t ∷ l) (r .tokens);
+      offset = rw (n, length-append (bytesOf (eqb i 0) p t) (written (i + 1) (after p t) (r .before))) (r .offset ∙ omega arith);
     }
 
 module _ (sources names : ℕ) where
@@ -61,8 +66,8 @@ module _ (sources names : ℕ) where
 
   pub run-stops : (ts : List Token) (text : List ℕ) (room i at : ℕ) (p : TokenChunk) → Held p → fits32 (flat ts) ≡ true
       → Meets sources names p ts → takesFrom Mode.Checked p ts ≡ false → length ts ≤ room → drop at text ≡ written i p ts
-      → Outcome p ts (run Mode.Checked sources names text room (stateOf p at))
-  unfolding written takesFrom endOf
+      → Outcome i at p ts (run Mode.Checked sources names text room (stateOf p at))
+  unfolding written takesFrom endOf offsetOf
   run-stops [] text room i at p h f w k l e = let z : _≡_ {A = ℕ} 0 1 = cc in absurd (omega (arith, z))
   run-stops (t ∷ ts) text zero i at p h f w k l e = absurd (not-suc-le-zero l)
   run-stops (t ∷ ts) text (suc room) i at p h f w k l e =
@@ -77,24 +82,34 @@ module _ (sources names : ℕ) where
       r = written (i + 1) (after p t) ts
 
       by : (x : Bool) → takesEach Mode.Checked (fieldsOf p t) ≡ x → both x (takesFrom Mode.Checked (after p t) ts) ≡ false
-          → (takesFrom Mode.Checked (after p t) ts ≡ false → Outcome (after p t) ts (run Mode.Checked sources names text room (stateOf (after p t) (at + length b))))
-          → Outcome p (t ∷ ts) (run Mode.Checked sources names text (suc room) (stateOf p at))
+          → (takesFrom Mode.Checked (after p t) ts ≡ false → Outcome (i + 1) (at + length b) (after p t) ts (run Mode.Checked sources names text room (stateOf (after p t) (at + length b))))
+          → Outcome i at p (t ∷ ts) (run Mode.Checked sources names text (suc room) (stateOf p at))
       by true q k ih =
           let f₁ = fits-after Mode.Checked sources names t ts f .0 in
           let m = meets-after sources names p t ts w in
-          subst (Outcome p (t ∷ ts))
+          subst (Outcome i at p (t ∷ ts))
           (sym
           (run-put Mode.Checked sources names text room (stateOf p at) (stateOf (after p t) (at + length b)) t (at + length (lead (eqb i 0) (p .«prev_dst_line») (t .«dst_line»)))
           (ap (stepFrom Mode.Checked sources names (stateOf p at)) e
           ∙ step-token Mode.Checked sources names p t h f₁ (m .0) q (eqb i 0) at r (ends-next Mode.Checked sources names i (after p t) ts (m .1)))))
-          (later p t ts (run Mode.Checked sources names text room (stateOf (after p t) (at + length b))) q (ih k))
+          (later i at p t ts (run Mode.Checked sources names text room (stateOf (after p t) (at + length b))) q (ih k))
       by false q k ih =
           let f₁ = fits-after Mode.Checked sources names t ts f .0 in
           let m = meets-after sources names p t ts w in
-          subst (Outcome p (t ∷ ts))
+          subst (Outcome i at p (t ∷ ts))
           (sym
           (run-refuse text room (stateOf p at) _ _
           (ap (stepFrom Mode.Checked sources names (stateOf p at)) e
           ∙ step-bytes Mode.Checked sources names p t h f₁ (m .0) (eqb i 0) at r (ends-next Mode.Checked sources names i (after p t) ts (m .1)) _
           (stops sources names _ (fieldsOf p t) _ _ q (readable p t h f₁ .1)))))
-          (record { before = []; t = t; first = record { rest = ts; split = refl; taken = refl; off = q }; code = refl; tokens = refl })
+          (record {
+            before = [];
+            t = t;
+            first = record { rest = ts; split = refl; taken = refl; off = q };
+            code = refl;
+            tokens = refl;
+            offset =
+                begins-at Mode.Checked (at + length (lead (eqb i 0) (p .«prev_dst_line») (t .«dst_line»))) (at + length (lead (eqb i 0) (p .«prev_dst_line») (t .«dst_line»)))
+                (fieldsOf p t) (firstOff (fieldsOf p t)) (off-less (fieldsOf p t) q)
+                ∙ rw (add-zero i) (omega arith);
+          })

@@ -3,6 +3,7 @@ use mathlib.Core.Path.{_≡_}
 use mathlib.Core.Bool.{true, false}
 use mathlib.Core.List.{List, [], _∷_, _++_}
 use Prim.Native.Nat.{ℕ, _+_, _≤_}
+use lib.Dec.{eqb}
 use lib.ListN.{length, take}
 use Rattle.list.specs.Memory.{onto}
 use Rattle.list.specs.Pick.{pick}
@@ -13,7 +14,7 @@ use Rattle.token.specs.declared.TokenChunk.{TokenChunk}
 use Rattle.value.specs.declared.Mode.{Mode}
 use Rattle.decode.specs.declared.Decoded.{Decoded}
 use Rattle.decode.specs.Mapping.{Decodes}
-use Rattle.chunk.specs.Chunk.{fresh, withEnds, fieldsOf, endOf}
+use Rattle.chunk.specs.Chunk.{fresh, withEnds, lead, fieldsOf, spelled, written, endOf}
 use Rattle.encode.specs.declared.Encoded.{Encoded}
 use Rattle.encode.specs.Encode.{bytesIn, Encodes}
 use Rattle.checked_premises.specs.Checked.{takes, takesEach, takesFrom, takesAll}
@@ -82,14 +83,23 @@ pub record Stopped (p : TokenChunk) (ts before : List Token) (t : Token) : Type 
   pub taken : takesFrom Mode.Checked p before ≡ true
   pub off : takesEach Mode.Checked (fieldsOf (endOf p before) t) ≡ false
 
--- decoded in checked mode into any table with room for it, the text is refused at such a token, for its first such value: the tokens
--- before it are written, and past them is what was there before
+-- how many bytes stand before that value, where the first of the tokens is the i-th of its table: those of the tokens before, the token's
+-- lead, and its fields before
+abbrev pub bytesBefore : ℕ → TokenChunk → List Token → Token → ℕ
+bytesBefore i p before t =
+    length (written i p before)
+    + (length (lead (eqb (i + length before) 0) (endOf p before .«prev_dst_line») (t .«dst_line»))
+    + length (spelled (take (firstOff (fieldsOf (endOf p before) t)) (fieldsOf (endOf p before) t))))
+
+-- decoded in checked mode into any table with room for it, the text is refused at such a token, for its first such value, whose first
+-- digit is the offset: the tokens before it are written, and past them is what was there before
 pub record Refused (xs table : List ℕ) (d : Decoded) (table′ : List ℕ) : Type 0 where
   pub before : List Token
   pub t : Token
   pub stopped : Stopped (fresh 0 0) (tokensOf xs) before t
   pub code : d .code ≡ Code.WideValue (firstOff (fieldsOf (endOf (fresh 0 0) before) t))
   pub tokens : d .tokens ≡ length before
+  pub offset : d .offset ≡ bytesBefore 0 (fresh 0 0) before t
   pub wrote : table′ ≡ over before table
 
 abbrev pub Refuses : ℕ → ℕ → List ℕ → List ℕ → Type 0

@@ -1,5 +1,5 @@
 -- Four bytes at once: what the tests of their bits say of each, and what is made of it. A fact of one byte is computed at all of
--- them. Assumes zeros.
+-- them. Assumes nothing.
 use mathlib.Core.Path.{_≡_, sym, _∙_, ap, subst}
 use mathlib.Core.Bool.{Bool, true, false}
 use Prim.Native.Nat.{ℕ, _+_, _-_, _*_, _/_, _%_, _^_, _<_, _≤_}

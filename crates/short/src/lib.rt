@@ -1,5 +1,5 @@
-// The short way: a segment of four or five values of one digit each, of which the second is 0, as most are. Its tests are
-// sufficient and no more: whatever fails one of them, and every refusal, is left to the general way.
+// The short way: a segment of four or five values of one digit each, of which the second is 0 and none is minus zero, as most
+// are. Its tests are sufficient and no more: whatever fails one of them, and every refusal, is left to the general way.
 use apply::State;
 ghost use mathlib.Core.Path.{_≡_};
 ghost use mathlib.Core.Bool.{true};

@@ -47,6 +47,10 @@ decoded mode sources names text room = run mode sources names text room start
 abbrev pub answer : Out → Decoded
 answer o = record { code = o .code; tokens = length (o .tokens); offset = o .offset }
 
+-- the mode of a decode that names none
+abbrev pub byDefault : Mode
+byDefault = Mode.Checked
+
 -- a decode's answer, and what the lent table holds then: the tokens, and past them what it held before
 pub record Decodes (mode : Mode) (sources names : ℕ) (text table : List ℕ) (r : Decoded) (table′ : List ℕ) : Type 0 where
   pub says : r ≡ answer (decoded mode sources names text (places (length table)))

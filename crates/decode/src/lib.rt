@@ -8,7 +8,7 @@ use step::Step;
 use value::Mode;
 ghost use mathlib.Core.Path.{_≡_};
 ghost use Rattle.step.specs.Step.{start};
-ghost use Rattle.decode.specs.Mapping.{Decodes};
+ghost use Rattle.decode.specs.Mapping.{byDefault, Decodes};
 ghost use Rattle.value.specs.declared.Mode.{Mode};
 
 // The code; how many tokens were written; and where the fault lies, or the text's length when done.
@@ -80,16 +80,17 @@ pub fn decode_lenient(text: &[u8], sources: u32, names: u32, table: &mut [u32]) 
     decode_in(Mode::Lenient, text, sources, names, table)
 }
 
-// Checked: a column, a source position or a name sum that leaves 32 bits is refused.
+// Checked: each value is the standard's, and one that is too wide, or a column, a source position or a name sum that leaves 32 bits,
+// is refused.
 pub fn decode_checked(text: &[u8], sources: u32, names: u32, table: &mut [u32]) -> Decoded
     ensures { λ r. ⌜ Decodes Mode.Checked sources names (now (text .entry)) (now (table .entry)) r (now (table .exit)) ⌝ }
 {
     decode_in(Mode::Checked, text, sources, names, table)
 }
 
-// The decode that names no mode is lenient.
+// The decode that names no mode is checked.
 pub fn decode_mapping(text: &[u8], sources: u32, names: u32, table: &mut [u32]) -> Decoded
-    ensures { λ r. ⌜ Decodes Mode.Lenient sources names (now (text .entry)) (now (table .entry)) r (now (table .exit)) ⌝ }
+    ensures { λ r. ⌜ Decodes byDefault sources names (now (text .entry)) (now (table .entry)) r (now (table .exit)) ⌝ }
 {
-    decode_lenient(text, sources, names, table)
+    decode_checked(text, sources, names, table)
 }

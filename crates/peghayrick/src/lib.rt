@@ -10,7 +10,7 @@ use token::TokenChunk;
 ghost use mathlib.Core.Path.{_≡_};
 ghost use Rattle.value.specs.declared.Mode.{Mode};
 ghost use Rattle.names.specs.Names.{nameList, placeOf};
-ghost use Rattle.decode.specs.Mapping.{Decodes};
+ghost use Rattle.decode.specs.Mapping.{byDefault, Decodes};
 ghost use Rattle.table_size.specs.Size.{tableSize};
 ghost use Rattle.encode.specs.Encode.{Encodes};
 ghost use Rattle.premises.specs.Premises.{Decides};
@@ -150,10 +150,10 @@ pub extern "C" fn pgk_meets_checked_premises(table: &[u32], sources: u32, names:
     flag_of(checked_premises::meets_checked_premises(table, sources, names))
 }
 
-// The decode that names no mode: lenient.
+// The decode that names no mode: checked.
 #[no_mangle]
 pub extern "C" fn pgk_decode(text: &[u8], sources: u32, names: u32, table: &mut [u32]) -> DecodedOut
-    ensures { λ r. ⌜ Goes (λ d. Decodes Mode.Lenient sources names (now (text .entry)) (now (table .entry)) d (now (table .exit))) decodedOut r ⌝ }
+    ensures { λ r. ⌜ Goes (λ d. Decodes byDefault sources names (now (text .entry)) (now (table .entry)) d (now (table .exit))) decodedOut r ⌝ }
 {
     decoded_out(decode::decode_mapping(text, sources, names, table))
 }

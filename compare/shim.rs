@@ -22,7 +22,6 @@ fn fat(s: Slice) -> Fat {
 }
 
 unsafe extern "C" {
-    fn raw_pgk_decode(r: *mut Words<4>, text: &Fat, sources: u32, names: u32, table: &Fat);
     fn raw_pgk_decode_lenient(r: *mut Words<4>, text: &Fat, sources: u32, names: u32, table: &Fat);
     fn raw_pgk_decode_checked(r: *mut Words<4>, text: &Fat, sources: u32, names: u32, table: &Fat);
     fn raw_pgk_translate(r: *mut Words<2>, table: &Fat, line: u32, source: u32, name: u32);
@@ -69,7 +68,6 @@ macro_rules! decode {
     };
 }
 
-decode!(pgk_decode, raw_pgk_decode);
 decode!(pgk_decode_lenient, raw_pgk_decode_lenient);
 decode!(pgk_decode_checked, raw_pgk_decode_checked);
 

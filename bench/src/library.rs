@@ -5,8 +5,8 @@ use peghayrick::raw::*;
 
 use crate::texts::Names;
 
-pub fn decode(text: &[u8], sources: u32, names: u32, table: &mut [u32]) -> Decoded {
-    unsafe { pgk_decode(text.as_ptr(), text.len(), sources, names, table.as_mut_ptr(), table.len()) }
+pub fn decode_lenient(text: &[u8], sources: u32, names: u32, table: &mut [u32]) -> Decoded {
+    unsafe { pgk_decode_lenient(text.as_ptr(), text.len(), sources, names, table.as_mut_ptr(), table.len()) }
 }
 
 pub fn decode_checked(text: &[u8], sources: u32, names: u32, table: &mut [u32]) -> Decoded {

@@ -56,7 +56,7 @@ fn over(ratio: f64, most: f64) -> &'static str {
 
 fn decode_ours<'a>(t: &'a Text, table: &'a mut [u32]) -> impl FnMut() + 'a {
     move || {
-        let d = library::decode(t.text.as_bytes(), t.sources, t.names, table);
+        let d = library::decode_lenient(t.text.as_bytes(), t.sources, t.names, table);
         assert!(d.code == 0 && d.tokens as usize == t.tokens.len());
     }
 }

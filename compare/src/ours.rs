@@ -14,7 +14,6 @@ pub struct DecodedOut {
 type DecodeFn = unsafe extern "C" fn(*const u8, usize, u32, u32, *mut u32, usize) -> DecodedOut;
 
 unsafe extern "C" {
-    fn pgk_decode(text: *const u8, n: usize, sources: u32, names: u32, table: *mut u32, k: usize) -> DecodedOut;
     fn pgk_decode_lenient(text: *const u8, n: usize, sources: u32, names: u32, table: *mut u32, k: usize) -> DecodedOut;
     fn pgk_decode_checked(text: *const u8, n: usize, sources: u32, names: u32, table: *mut u32, k: usize) -> DecodedOut;
     fn pgk_translate(table: *mut u32, n: usize, line: u32, source: u32, name: u32) -> Answer;
@@ -90,23 +89,25 @@ impl LentBytes {
     }
 }
 
+/// The decodes that name their mode. The one that names none is run in bindings/.
 #[derive(Clone, Copy, PartialEq, Eq, Debug)]
 pub enum Entry {
-    Plain,
     Lenient,
     Checked,
 }
 
 impl Entry {
-    pub const ALL: [Entry; 3] = [Entry::Plain, Entry::Lenient, Entry::Checked];
+    pub const ALL: [Entry; 2] = [Entry::Lenient, Entry::Checked];
 
     pub fn mode(self) -> Mode {
-        if self == Entry::Checked { Mode::Checked } else { Mode::Lenient }
+        match self {
+            Entry::Lenient => Mode::Lenient,
+            Entry::Checked => Mode::Checked,
+        }
     }
 
     fn function(self) -> DecodeFn {
         match self {
-            Entry::Plain => pgk_decode,
             Entry::Lenient => pgk_decode_lenient,
             Entry::Checked => pgk_decode_checked,
         }

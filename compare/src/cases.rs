@@ -58,12 +58,14 @@ thread_local! {
 }
 
 /// The codes that each part can give; for what checked mode alone has, the fields; for the premises, no and yes.
-const DUE: [(&str, &[u64]); 12] = [
+const DUE: [(&str, &[u64]); 14] = [
     ("decode, lenient", &[0, 1, 2, 3, 4, 5, 7]),
     ("decode, checked", &[0, 1, 2, 3, 4, 5, 6, 7]),
     ("checked, a wide value", &[0, 1, 2, 3, 4]),
     ("checked, a wide sum", &[0, 2, 3, 4]),
     ("checked, minus zero taken", &[0, 1, 2, 3, 4]),
+    ("exact, lists", &[0, 3, 4, 5, 6]),
+    ("exact, texts", &[0, 1, 2, 3, 4, 5, 6]),
     ("write", &[0, 8, 9, 10, 11]),
     ("premises, lenient", &[0, 1]),
     ("premises, checked", &[0, 1]),
@@ -73,7 +75,7 @@ const DUE: [(&str, &[u64]); 12] = [
     ("compose", &[0, 7, 8, 11, 13, 14]),
 ];
 
-/// Counts a code that a part of the library gave, and that was held to the model.
+/// Counts a code that a part of the library gave, and that was held to the model or to the judge of exact.
 pub fn met_code(part: &'static str, code: u64) {
     CODES.with(|c| *c.borrow_mut().entry((part, code)).or_insert(0) += 1);
 }
@@ -191,7 +193,7 @@ impl Tally {
     /// Prints the summary, and says whether all agreed. A run of everything meets every code that a part has.
     pub fn summary(&self, everything: bool) -> bool {
         println!();
-        println!("answers of ours that were held to the model, by code:");
+        println!("answers of ours that were held to the model, or to the judge of exact, by code:");
         let codes = CODES.with(|c| c.borrow().clone());
         let missing: Vec<String> = DUE
             .iter()

@@ -5,6 +5,7 @@ mod composing;
 mod corpus;
 mod decoding;
 mod differences;
+mod exact;
 mod far;
 mod limits;
 mod looking;
@@ -46,7 +47,8 @@ fn args() -> Args {
     a
 }
 
-const PARTS: [&str; 9] = ["differences", "translate", "lookup", "compose", "write", "decode", "limits", "corpus", "far"];
+const PARTS: [&str; 10] =
+    ["differences", "translate", "lookup", "compose", "write", "decode", "exact", "limits", "corpus", "far"];
 
 fn usage() -> ! {
     eprintln!(
@@ -72,13 +74,14 @@ fn main() {
     }
     let mut tally = Tally::default();
     tally.stop = a.stop;
-    let parts: [(&str, fn(&mut Tally, u64, usize)); 6] = [
+    let parts: [(&str, fn(&mut Tally, u64, usize)); 7] = [
         ("differences", differences::run),
         ("translate", translating::run),
         ("lookup", looking::run),
         ("compose", composing::run),
         ("write", writing::run),
         ("decode", decoding::run),
+        ("exact", exact::run),
     ];
     let wanted = |name: &str| a.only.as_deref().is_none_or(|o| o == name);
     for (name, part) in parts {

@@ -29,7 +29,7 @@
  * the tokens before the refused segment; every other refusal writes nothing. Look at the code first: the
  * rest of a refused answer is not a result.
  *
- * Order of use: pgk_table_size, pgk_decode_checked, pgk_lookup; bindings/examples/stop.c does it.
+ * Order of use: pgk_table_size, pgk_decode, pgk_lookup; bindings/examples/stop.c does it.
  *
  * docs/RULES.md has the exact rules, docs/TRUST.md what of this is proved, what is tested and what is trusted.
  */
@@ -137,29 +137,29 @@ uint64_t pgk_version(void);
 size_t pgk_table_size(const uint8_t *text, size_t text_len);
 
 /* Decodes a mappings text into a table, by the counts of sources and names that the map lists, sources first.
- * The decode that names no mode is lenient: a column, line or name id that leaves 32 bits loses its upper
- * bits, so a damaged map may give a wrong position. For a screen take pgk_decode_checked.
+ * The decode that names no mode is checked, the one for a screen: no position loses bits unseen. It takes each value as
+ * ECMA-426 does, by all of its digits: a magnitude of 2^31 or more is too wide, and minus zero ("B", "hA") is -2^31, by
+ * which most sums fall below 0. Before 0.5.0 it was lenient: pgk_decode_lenient has those answers.
  * Refusals, the first that applies in a segment:
  *   PGK_VLQ_LEFTOVER, PGK_VLQ_OVERFLOW   in one of its values
+ *   PGK_WIDE_VALUE                       one of its first five values is too wide
  *   PGK_BAD_SEGMENT_SIZE                 a column or line below 0, or not 1, 4 or 5 fields
  *   PGK_BAD_SOURCE_REFERENCE             the source id is below 0 or not below sources
  *   PGK_BAD_NAME_REFERENCE               the name id is not below names
  *   PGK_TABLE_FULL                       the segment is good, and no place is left
- * The table past the tokens written is kept. */
+ * PGK_WIDE_VALUE has a second place, where a sum is kept: a column or line of 2^32 or more, a name id of 2^32 or more or
+ * below 0. A refused map must not be looked up, though the tokens before the refused segment are in the table. The
+ * table past the tokens written is kept. */
 pgk_decoded pgk_decode(const uint8_t *text, size_t text_len, uint32_t sources, uint32_t names, uint32_t *table, size_t table_len);
 
 /* The same, by name. */
-pgk_decoded pgk_decode_lenient(const uint8_t *text, size_t text_len, uint32_t sources, uint32_t names, uint32_t *table, size_t table_len);
-
-/* Decodes likewise, but takes each value as ECMA-426 does, by all of its digits: a magnitude of 2^31 or more is too
- * wide, and minus zero ("B", "hA") is -2^31, by which most sums fall below 0. This is the decode for a screen: no
- * position loses bits unseen. PGK_WIDE_VALUE has two places among the refusals of a segment:
- *   once its values are all read, before its column and its count: one of the first five is too wide
- *   where a sum is kept: a column or line of 2^32 or more, a name id of 2^32 or more or below 0
- * It refuses texts that the other decodes take; where a text has minus zero, it may also take what they refuse, or
- * give other positions. A refused map must not be looked up, though the tokens before the refused segment are in the
- * table. */
 pgk_decoded pgk_decode_checked(const uint8_t *text, size_t text_len, uint32_t sources, uint32_t names, uint32_t *table, size_t table_len);
+
+/* Decodes likewise, but with the answers of the crate oxc_sourcemap 9.0.0: minus zero is 0, nothing is PGK_WIDE_VALUE,
+ * and a column, line or name id that leaves 32 bits loses its upper bits, so a damaged map may give a wrong position.
+ * Not for a screen. It takes texts that pgk_decode refuses; where a text has minus zero, it may also refuse what
+ * pgk_decode takes, or give other positions. */
+pgk_decoded pgk_decode_lenient(const uint8_t *text, size_t text_len, uint32_t sources, uint32_t names, uint32_t *table, size_t table_len);
 
 /* Writes a chunk of a table as mappings text. The first chunk is pgk_first_chunk(end); for the next, take next and
  * set its end. A text that was decoded comes back without the ';' at its end, and without empty segments: no token
@@ -172,18 +172,18 @@ pgk_decoded pgk_decode_checked(const uint8_t *text, size_t text_len, uint32_t so
  * advances, the call need not count the bytes first, and is quicker by a third. */
 pgk_encoded pgk_encode(const uint32_t *table, size_t table_len, pgk_chunk chunk, uint8_t *out, size_t out_len);
 
-/* 1 where what pgk_encode writes of the whole table surely reads back (lenient mode, these counts) as that table,
+/* 1 where what pgk_encode writes of the whole table surely reads back (pgk_decode_lenient, these counts) as that table,
  * else 0, also for a bad table: lines do not go back, ids are PGK_NONE or below their counts, no name stands
  * without a source, and a token without a source repeats the source position of the latest token with one
  * (0, 0 before any). A table that was decoded by these counts should, unless its text has 2^32 ';' or gives more
  * than 4294967294 tokens: that is no theorem, so ask. One that was made, translated or composed need not. */
 uint64_t pgk_meets_premises(const uint32_t *table, size_t table_len, uint32_t sources, uint32_t names);
 
-/* 1 where it surely reads back in checked mode too, else 0, also for a bad table: pgk_meets_premises says 1, and each
- * step that is written is below 2^31, up or down. There is a step to each generated column (on a new line from 0), with
- * a source to the source id, line and column (from the latest token with one, 0 before any), and with a name to the name
- * id (from the latest that is written). Where pgk_meets_premises alone says 1, pgk_decode_checked refuses what is
- * written with PGK_WIDE_VALUE: ask before a screen relies on it. A table that was decoded in checked mode may have a
+/* 1 where it surely reads back in checked mode too, by pgk_decode, else 0, also for a bad table: pgk_meets_premises says
+ * 1, and each step that is written is below 2^31, up or down. There is a step to each generated column (on a new line
+ * from 0), with a source to the source id, line and column (from the latest token with one, 0 before any), and with a
+ * name to the name id (from the latest that is written). Where pgk_meets_premises alone says 1, pgk_decode refuses what
+ * is written with PGK_WIDE_VALUE: ask before a screen relies on it. A table that was decoded in checked mode may have a
  * step of -2^31 too, from minus zero. */
 uint64_t pgk_meets_checked_premises(const uint32_t *table, size_t table_len, uint32_t sources, uint32_t names);
 

@@ -63,7 +63,8 @@ static int step(const char *map, size_t len, uint32_t line, uint32_t col) {
         fprintf(stderr, "there is no memory for the map: load a smaller one\n");
         return 2;
     }
-    pgk_decoded d = pgk_decode_checked((const uint8_t *)text, len, sources, names, table, size);
+    /* The decode that names no mode is checked: no position that loses bits comes to the screen. */
+    pgk_decoded d = pgk_decode((const uint8_t *)text, len, sources, names, table, size);
     if (d.code != PGK_DONE) {
         fprintf(stderr, "the map is refused at byte %llu: %s (code %llu, number %llu)\n",
             (unsigned long long)d.offset, pgk_words(d.code), (unsigned long long)d.code, (unsigned long long)d.number);

@@ -9,7 +9,7 @@
 //! Lines and columns count from 0, those that are printed too, and columns count UTF-16 units.
 //! Ends with 0: a step was printed; 1: there is none; 2: the map or the call was refused.
 
-use peghayrick::{decode_checked, lookup_token, table_size, version, written, Token, VERSION};
+use peghayrick::{decode_mapping, lookup_token, table_size, version, written, Token, VERSION};
 use std::process::ExitCode;
 
 /// A decimal number of 32 bits: digits and nothing else.
@@ -28,7 +28,8 @@ fn parts(map: &[u8]) -> Option<(u32, u32, &[u8])> {
 fn step(map: &[u8], line: u32, col: u32) -> Result<Option<Token>, String> {
     let (sources, names, mappings) = parts(map).ok_or("the map has no counts on its first line: export it again")?;
     let mut table = vec![0u32; table_size(mappings)];
-    let decoded = decode_checked(mappings, sources, names, &mut table).map_err(|refusal| {
+    // The decode that names no mode is checked: no position that loses bits comes to the screen.
+    let decoded = decode_mapping(mappings, sources, names, &mut table).map_err(|refusal| {
         let (at, words, code, number) =
             (refusal.at().map_or(0, |at| at.offset), refusal.words(), refusal.code(), refusal.number());
         format!("the map is refused at byte {at}: {words} (code {code}, number {number})")

@@ -4,12 +4,12 @@
 //! to it and names its answers. It allocates nothing and has no panics: the caller lends all memory.
 //!
 //! ```
-//! use peghayrick::{decode_checked, lookup_token, table_size, written, Refusal};
+//! use peghayrick::{decode_mapping, lookup_token, table_size, written, Refusal};
 //!
 //! /// The source line and column of a generated position, all counted from 0.
 //! fn step(mappings: &[u8], sources: u32, names: u32, line: u32, col: u32) -> Result<Option<(u32, u32)>, Refusal> {
 //!     let mut table = vec![0u32; table_size(mappings)];
-//!     let decoded = decode_checked(mappings, sources, names, &mut table)?;
+//!     let decoded = decode_mapping(mappings, sources, names, &mut table)?;
 //!     let token = lookup_token(written(&table, decoded.tokens), line, col)?;
 //!     Ok(token.filter(|t| t.get_source_id().is_some()).map(|t| (t.src_line, t.src_col)))
 //! }
@@ -25,8 +25,9 @@
 //! column all the same; they say nothing of it and must not be shown. Test [`Token::get_source_id`] first.
 //!
 //! # Which decode
-//! [`decode_checked`] is the one for a screen: it takes each value as ECMA-426 does and refuses a number that is too
-//! wide. [`decode_lenient`], and [`decode_mapping`], which names no mode, drop the upper bits, as oxc_sourcemap does. A
+//! [`decode_mapping`], which names no mode, is checked, and so the one for a screen: it takes each value as ECMA-426 does and
+//! refuses a number that is too wide. [`decode_checked`] is the same by name. [`decode_lenient`] drops the upper bits, as
+//! oxc_sourcemap does: take it for that crate's answers, and not for a screen. Before 0.5.0 [`decode_mapping`] was lenient. A
 //! refused map must not be looked up, although the tokens before the refused segment are in the table.
 //!
 //! # Tables
@@ -112,21 +113,27 @@ fn answered(a: raw::Answer) -> Result<u64, Refusal> {
 /// Never more than one token for each `,` and `;` and one more. It reads the text once.
 ///
 /// ```
-/// use peghayrick::{decode_checked, table_size, Decoded};
+/// use peghayrick::{decode_mapping, table_size, Decoded};
 /// assert_eq!(table_size(b"AAEG;,;C;"), 12);
 /// let mut table = vec![0u32; table_size(b"AAEG;,;C;")];
-/// assert_eq!(decode_checked(b"AAEG;,;C;", 1, 0, &mut table), Ok(Decoded { tokens: 2, offset: 9 }));
+/// assert_eq!(decode_mapping(b"AAEG;,;C;", 1, 0, &mut table), Ok(Decoded { tokens: 2, offset: 9 }));
 /// ```
 pub fn table_size(text: &[u8]) -> usize {
     // SAFETY: the slice is lent with its own pointer and length for the call.
     unsafe { raw::pgk_table_size(text.as_ptr(), text.len()) }
 }
 
-/// Decodes mappings into a table, by the counts of sources and names that the map lists, sources first. It is
-/// [`decode_lenient`]: a decode that names no mode is lenient. For a screen take [`decode_checked`].
+/// Decodes mappings into a table, by the counts of sources and names that the map lists, sources first. The decode that
+/// names no mode is checked: it is [`decode_checked`], the one for a screen, and wherever a wrong position does harm.
+///
+/// Each value is taken as ECMA-426 does, by all of its digits: a magnitude of 2^31 or more is refused as
+/// [`WideValue`](Refusal::WideValue), and minus zero (`B`, `hA`) is -2^31, by which most sums fall below 0. A column, line or
+/// name id that leaves 32 bits is refused as [`WideValue`](Refusal::WideValue) too.
+///
+/// Before 0.5.0 this was [`decode_lenient`]: who wants those answers, which are oxc_sourcemap's, calls that by name.
 ///
 /// ```
-/// use peghayrick::{decode_mapping, tokens_of, written, Decoded, Refusal, Stop, Token};
+/// use peghayrick::{decode_lenient, decode_mapping, tokens_of, Decoded, Refusal, Stop, Token};
 /// let mut table = [0u32; 12];
 /// assert_eq!(decode_mapping(b"AAEG;C", 1, 0, &mut table), Ok(Decoded { tokens: 2, offset: 6 }));
 /// assert_eq!(tokens_of(&table), [Token::new(0, 0, 2, 3, Some(0), None), Token::new(1, 1, 2, 3, None, None)]);
@@ -135,19 +142,29 @@ pub fn table_size(text: &[u8]) -> usize {
 /// let refusal = decode_mapping(b"AAEG;AAAA,!", 1, 0, &mut table).unwrap_err();
 /// assert_eq!(refusal, Refusal::VlqLeftover { at: Stop { tokens: 2, offset: 11 } });
 /// assert_eq!(tokens_of(&table)[1], Token::new(1, 0, 2, 3, Some(0), None));
+///
+/// // A column of 2^31 in one step: no bundle has it, and oxc_sourcemap takes it.
+/// let refusal = decode_mapping(b"ggggggE", 0, 0, &mut table).unwrap_err();
+/// assert_eq!(refusal, Refusal::WideValue { field: 0, at: Stop { tokens: 0, offset: 0 } });
+/// assert!(decode_lenient(b"ggggggE", 0, 0, &mut table).is_ok());
 /// ```
 ///
 /// # Errors
 /// The first that applies in a segment: [`VlqLeftover`](Refusal::VlqLeftover), [`VlqOverflow`](Refusal::VlqOverflow),
-/// [`BadSegmentSize`](Refusal::BadSegmentSize), [`BadSourceReference`](Refusal::BadSourceReference),
-/// [`BadNameReference`](Refusal::BadNameReference), [`TableFull`](Refusal::TableFull).
+/// [`WideValue`](Refusal::WideValue), [`BadSegmentSize`](Refusal::BadSegmentSize),
+/// [`BadSourceReference`](Refusal::BadSourceReference), [`BadNameReference`](Refusal::BadNameReference),
+/// [`TableFull`](Refusal::TableFull). `WideValue` stands there for one of the segment's first five values, once they are all
+/// read; for a sum it comes after the sum's own test below 0.
 pub fn decode_mapping(mappings: &[u8], sources: u32, names: u32, table: &mut [u32]) -> Result<Decoded, Refusal> {
     // SAFETY: each slice is lent with its own pointer and length for the call; the two cannot overlap.
     decoded(unsafe { raw::pgk_decode(mappings.as_ptr(), mappings.len(), sources, names, table.as_mut_ptr(), table.len()) })
 }
 
-/// Decodes as [`decode_mapping`] does: a column, line or name id that leaves 32 bits loses its upper bits, so a
-/// damaged map may give a wrong position.
+/// Decodes with the answers of oxc_sourcemap 9.0.0: a column, line or name id that leaves 32 bits loses its upper bits, so a
+/// damaged map may give a wrong position, and minus zero is 0. Not for a screen.
+///
+/// It takes texts that [`decode_mapping`] refuses; where a text has minus zero, it may also refuse what that takes, or give
+/// other positions.
 ///
 /// ```
 /// let mut table = [7u32; 6];
@@ -156,7 +173,7 @@ pub fn decode_mapping(mappings: &[u8], sources: u32, names: u32, table: &mut [u3
 /// ```
 ///
 /// # Errors
-/// As [`decode_mapping`].
+/// As [`decode_mapping`], but for [`WideValue`](Refusal::WideValue).
 pub fn decode_lenient(mappings: &[u8], sources: u32, names: u32, table: &mut [u32]) -> Result<Decoded, Refusal> {
     // SAFETY: as in decode_mapping.
     decoded(unsafe {
@@ -164,13 +181,7 @@ pub fn decode_lenient(mappings: &[u8], sources: u32, names: u32, table: &mut [u3
     })
 }
 
-/// Decodes as [`decode_mapping`] does, but takes each value as ECMA-426 does, by all of its digits: a magnitude of 2^31 or
-/// more is refused as [`WideValue`](Refusal::WideValue), and minus zero (`B`, `hA`) is -2^31, by which most sums fall below 0.
-/// A column, line or name id that leaves 32 bits is refused as [`WideValue`](Refusal::WideValue) too. This is the decode for a
-/// screen, and wherever a wrong position does harm.
-///
-/// It refuses texts that [`decode_lenient`] takes; where a text has minus zero, it may also take what that refuses, or
-/// give other positions.
+/// Decodes as [`decode_mapping`] does, by name.
 ///
 /// ```
 /// use peghayrick::{decode_checked, decode_lenient, Refusal, Stop};
@@ -194,8 +205,7 @@ pub fn decode_lenient(mappings: &[u8], sources: u32, names: u32, table: &mut [u3
 /// ```
 ///
 /// # Errors
-/// As [`decode_mapping`], and [`WideValue`](Refusal::WideValue): for one of a segment's first five values once they are all
-/// read, before its column and its count; for a sum after the sum's own test below 0.
+/// As [`decode_mapping`].
 pub fn decode_checked(mappings: &[u8], sources: u32, names: u32, table: &mut [u32]) -> Result<Decoded, Refusal> {
     // SAFETY: as in decode_mapping.
     decoded(unsafe {
@@ -250,7 +260,7 @@ pub fn serialize_mappings(table: &[u32], chunk: TokenChunk, out: &mut [u8]) -> R
     }
 }
 
-/// Whether what [`serialize_mappings`] writes of the whole table surely reads back, in lenient mode and by these counts, as
+/// Whether what [`serialize_mappings`] writes of the whole table surely reads back, by [`decode_lenient`] and these counts, as
 /// that table: lines do not go back, ids are none or below their counts, no name stands without a source, and a token
 /// without a source repeats the source position of the latest token with one (0, 0 before any). `false` for a bad table.
 ///
@@ -272,19 +282,19 @@ pub fn meets_premises(table: &[u32], sources: u32, names: u32) -> bool {
     unsafe { raw::pgk_meets_premises(table.as_ptr(), table.len(), sources, names) == 1 }
 }
 
-/// Whether what [`serialize_mappings`] writes of the whole table surely reads back in checked mode too, by these counts: the
+/// Whether what [`serialize_mappings`] writes of the whole table surely reads back by [`decode_mapping`] too, by these counts: the
 /// table [meets the premises](meets_premises), and each step that is written is below 2^31, up or down. There is a step to
 /// each generated column (on a new line from 0), with a source to the source id, line and column (from the latest token with
 /// one, 0 before any), and with a name to the name id (from the latest that is written). `false` for a bad table.
 ///
-/// Where [`meets_premises`] alone says `true`, [`decode_checked`] refuses what is written as
+/// Where [`meets_premises`] alone says `true`, [`decode_mapping`] refuses what is written as
 /// [`WideValue`](Refusal::WideValue): ask before a screen relies on it. A table that was decoded in checked mode may have a
 /// step of -2^31 too, from minus zero.
 ///
 /// ```
 /// use peghayrick::*;
 ///
-/// /// The mappings of a table for the controller, which reads them in checked mode; `None` where it would not.
+/// /// The mappings of a table for the controller, which reads them by `decode_mapping`; `None` where it would not.
 /// fn exported(table: &[u32], sources: u32, names: u32) -> Option<Vec<u8>> {
 ///     if !meets_checked_premises(table, sources, names) {
 ///         return None;

@@ -18,9 +18,9 @@ pub struct Stop {
 /// `Display` says what is wrong, where, and what to do; [`words`](Refusal::words) is one fixed sentence a code:
 ///
 /// ```
-/// use peghayrick::decode_checked;
+/// use peghayrick::decode_mapping;
 /// let mut table = [0u32; 60];
-/// let refusal = decode_checked(b"AAAA,AAA", 1, 0, &mut table).unwrap_err();
+/// let refusal = decode_mapping(b"AAAA,AAA", 1, 0, &mut table).unwrap_err();
 /// assert_eq!(refusal.code(), 3);
 /// assert_eq!(refusal.number(), 3);
 /// assert_eq!(
@@ -63,7 +63,7 @@ pub enum Refusal {
         /// Where the decode stopped.
         at: Stop,
     },
-    /// 6: a number is too wide (checked mode only): a value of magnitude 2^31 or more in one of a segment's first five fields,
+    /// 6: a number is too wide (not in lenient mode): a value of magnitude 2^31 or more in one of a segment's first five fields,
     /// a column, line or name id of 2^32 or more, or a name id below 0.
     WideValue {
         /// The field: 0 generated column, 1 source, 2 source line, 3 source column, 4 name.

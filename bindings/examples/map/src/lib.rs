@@ -15,7 +15,7 @@
 //! # Ok::<(), peghayrick_map::Error>(())
 //! ```
 
-use peghayrick::{decode_checked, lookup_token, serialize_mappings, table_size, tokens_of, Refusal, Token, TokenChunk, WIDTH};
+use peghayrick::{decode_mapping, lookup_token, serialize_mappings, table_size, tokens_of, Refusal, Token, TokenChunk, WIDTH};
 use serde::{Deserialize, Serialize};
 use std::fmt;
 
@@ -162,7 +162,8 @@ impl Map {
 
         let text = read.mappings.as_bytes();
         let mut table = vec![0; table_size(text)];
-        let decoded = decode_checked(text, count(&read.sources)?, count(&read.names)?, &mut table)?;
+        // It names no mode, so it is checked.
+        let decoded = decode_mapping(text, count(&read.sources)?, count(&read.names)?, &mut table)?;
         table.truncate(WIDTH * decoded.tokens);
         Ok(Map {
             file: read.file,

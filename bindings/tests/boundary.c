@@ -69,13 +69,15 @@ static int back(lent l, void *to) {
 
 static uint8_t *pens[8];
 
-/* Decoding in one mode (0 as by default, 1 lenient, 2 checked), from one place to another. */
+/* Decoding in one mode, from one place to another. By default it is checked. */
+enum { DEFAULT, LENIENT, CHECKED, MODES };
+
 static pgk_decoded decode_at(int mode, place from, place to, const void *text, size_t len, uint32_t s, uint32_t n,
     uint32_t *table, size_t numbers, int *ok) {
     lent a = lend(pens[0], from, text, len, 0), b = lend(pens[1], to, table, 4 * numbers, 1);
     uint32_t *t = (uint32_t *)b.at;
-    pgk_decoded d = mode == 0 ? pgk_decode(a.at, len, s, n, t, numbers)
-        : mode == 1 ? pgk_decode_lenient(a.at, len, s, n, t, numbers) : pgk_decode_checked(a.at, len, s, n, t, numbers);
+    pgk_decoded d = mode == DEFAULT ? pgk_decode(a.at, len, s, n, t, numbers)
+        : mode == LENIENT ? pgk_decode_lenient(a.at, len, s, n, t, numbers) : pgk_decode_checked(a.at, len, s, n, t, numbers);
     *ok &= back(b, table) & back(a, NULL);
     return d;
 }
@@ -134,8 +136,8 @@ static void worked(void) {
     };
     for (size_t i = 0; i < sizeof rows / sizeof *rows; i++) {
         size_t len = strlen(rows[i].text);
-        for (int mode = 0; mode < 3; mode++) {
-            uint32_t code = mode == 2 ? rows[i].wide_code : rows[i].code, number = mode == 2 ? rows[i].wide_number : rows[i].number;
+        for (int mode = DEFAULT; mode < MODES; mode++) {
+            uint32_t code = mode == LENIENT ? rows[i].code : rows[i].wide_code, number = mode == LENIENT ? rows[i].number : rows[i].wide_number;
             uint32_t out[6] = { 0 };
             pgk_decoded want = { code, number, code == 0 ? rows[i].tokens : 0, code == 0 ? len : rows[i].at };
             int ok = decode_all(mode, rows[i].text, len, rows[i].s, rows[i].n, 13, want, out);
@@ -144,11 +146,11 @@ static void worked(void) {
         }
     }
     uint32_t out[12], two[12] = { 0, 0, 2, 3, 0, none, 1, 1, 2, 3, none, none };
-    for (int mode = 0; mode < 3; mode++)
+    for (int mode = DEFAULT; mode < MODES; mode++)
         check(decode_all(mode, "AAEG;C", 6, 1, 0, 12, (pgk_decoded){ 0, 0, 2, 6 }, out) && memcmp(out, two, 48) == 0, "AAEG;C");
     /* What checked mode has alone: minus zero, the first field that is too wide, and its place among the refusals. */
     uint32_t zero[6] = { 0 };
-    check(decode_all(1, "AAAAB", 5, 1, 1, 6, (pgk_decoded){ 0, 0, 1, 5 }, out) && memcmp(out, zero, 24) == 0, "minus zero as a name, lenient");
+    check(decode_all(LENIENT, "AAAAB", 5, 1, 1, 6, (pgk_decoded){ 0, 0, 1, 5 }, out) && memcmp(out, zero, 24) == 0, "minus zero as a name, lenient");
     static const struct { const char *text; uint32_t s, n; pgk_decoded want; const char *what; } rules[] = {
         { "AAAAB", 1, 1, { 6, 4, 0, 4 }, "minus zero as a name, checked" },
         { "AAggggggIA", 1, 0, { 6, 2, 0, 2 }, "a wide source line" },
@@ -164,19 +166,21 @@ static void worked(void) {
         { "+/////D,hA", 0, 0, { 3, 0, 1, 8 }, "minus zero from 2^31 - 1" },
     };
     for (size_t i = 0; i < sizeof rules / sizeof *rules; i++) {
-        uint32_t read[24];
-        int ok = decode_all(2, rules[i].text, strlen(rules[i].text), rules[i].s, rules[i].n, 24, rules[i].want, read);
-        if (rules[i].want.code == 0) ok &= read[7] == 2147483648u && read[13] == 0;
-        check(ok, rules[i].what);
+        for (int mode = DEFAULT; mode < MODES; mode += CHECKED) {
+            uint32_t read[24];
+            int ok = decode_all(mode, rules[i].text, strlen(rules[i].text), rules[i].s, rules[i].n, 24, rules[i].want, read);
+            if (rules[i].want.code == 0) ok &= read[7] == 2147483648u && read[13] == 0;
+            check(ok, rules[i].what);
+        }
     }
-    check(decode_all(0, "AAEG;C", 6, 1, 0, 11, (pgk_decoded){ 7, 0, 1, 5 }, out), "TableFull, eleven numbers");
-    check(decode_all(0, "AAEG;AAA", 8, 1, 0, 6, (pgk_decoded){ 3, 3, 1, 5 }, out), "a full table and a bad segment: the segment's code");
-    check(decode_all(0, "AAEG;AAAJ", 9, 1, 0, 12, (pgk_decoded){ 3, 0, 1, 8 }, out), "a source column below 0, behind a token");
-    check(decode_all(2, "AAAAA;AAAAC", 11, 1, 1, 12, (pgk_decoded){ 5, 1, 1, 10 }, out), "a bad name, behind a token");
-    check(decode_all(1, "A,!", 3, 0, 0, 12, (pgk_decoded){ 1, 0, 1, 3 }, out), "a value cut short at the end, behind a token");
-    check(decode_all(2, "AA", 2, 0, 0, 12, (pgk_decoded){ 3, 2, 0, 0 }, out), "a wrong count is at the segment's start");
-    check(decode_all(0, "A", 1, 0, 0, 0, (pgk_decoded){ 7, 0, 0, 0 }, NULL), "TableFull, no table");
-    check(decode_all(0, ";;,", 3, 0, 0, 0, (pgk_decoded){ 0, 0, 0, 3 }, NULL), "delimiters need no table");
+    check(decode_all(DEFAULT, "AAEG;C", 6, 1, 0, 11, (pgk_decoded){ 7, 0, 1, 5 }, out), "TableFull, eleven numbers");
+    check(decode_all(DEFAULT, "AAEG;AAA", 8, 1, 0, 6, (pgk_decoded){ 3, 3, 1, 5 }, out), "a full table and a bad segment: the segment's code");
+    check(decode_all(DEFAULT, "AAEG;AAAJ", 9, 1, 0, 12, (pgk_decoded){ 3, 0, 1, 8 }, out), "a source column below 0, behind a token");
+    check(decode_all(CHECKED, "AAAAA;AAAAC", 11, 1, 1, 12, (pgk_decoded){ 5, 1, 1, 10 }, out), "a bad name, behind a token");
+    check(decode_all(LENIENT, "A,!", 3, 0, 0, 12, (pgk_decoded){ 1, 0, 1, 3 }, out), "a value cut short at the end, behind a token");
+    check(decode_all(CHECKED, "AA", 2, 0, 0, 12, (pgk_decoded){ 3, 2, 0, 0 }, out), "a wrong count is at the segment's start");
+    check(decode_all(DEFAULT, "A", 1, 0, 0, 0, (pgk_decoded){ 7, 0, 0, 0 }, NULL), "TableFull, no table");
+    check(decode_all(DEFAULT, ";;,", 3, 0, 0, 0, (pgk_decoded){ 0, 0, 0, 3 }, NULL), "delimiters need no table");
 }
 
 /* Texts at random: every placement answers alike; the refused segment begins behind the last delimiter before the offset, and what
@@ -193,7 +197,7 @@ static void texts(unsigned rounds) {
             text[i] = x < 3 ? ',' : x < 4 ? ';' : x < 15 ? digits[2 * below(8)] : below(40) < wild ? (char)any() : digits[below(64)];
         }
         uint32_t s = below(4) ? 1 + below(8) : any(), n = below(4) ? below(8) : any();
-        int mode = (int)below(3);
+        int mode = (int)below(MODES);
         uint32_t table[64], again[64];
         for (size_t k = 0; k < 64; k++) table[k] = again[k] = 0x5EED0000u + (uint32_t)k;
         pgk_decoded d = decode_at(mode, HEAP, HEAP, text, len, s, n, table, numbers, &alike);
@@ -209,6 +213,59 @@ static void texts(unsigned rounds) {
     check(alike, "texts: one answer in every placement, nothing outside touched");
     check(sound, "texts: counts, offsets and ids within their bounds");
     check(cut, "texts: the part before a refused segment is done, with the same tokens");
+}
+
+/* Whether two decodes gave one answer and left one table. */
+static int alike_in(int one, int other, const char *text, size_t len, uint32_t s, uint32_t n, size_t numbers, int *ok) {
+    uint32_t table[2][96];
+    for (size_t k = 0; k < 96; k++) table[0][k] = table[1][k] = 0x5EED0000u + (uint32_t)k;
+    place from = (place)below(PLACES), to = (place)below(PLACES);
+    pgk_decoded d = decode_at(one, from, to, text, len, s, n, table[0], numbers, ok);
+    pgk_decoded e = decode_at(other, from, to, text, len, s, n, table[1], numbers, ok);
+    return same_decoded(d, e) && memcmp(table[0], table[1], sizeof table[0]) == 0;
+}
+
+/* The decode that names no mode is the checked one: one answer and one table, where lenient mode has others and where not. */
+static void by_default(unsigned rounds) {
+    static const struct { const char *text; uint32_t s, n; const char *what; } rows[] = {
+        { "ggggggE", 0, 0, "by default: a value past 31 bits" },
+        { "ggggggggggggQ", 0, 0, "by default: a bit that the thirteenth digit loses" },
+        { "+/////D,+/////D,E", 0, 0, "by default: a sum of 2^32" },
+        { "B", 0, 0, "by default: minus zero" },
+        { "hA", 0, 0, "by default: minus zero in two digits" },
+        { "+/////D,C,B", 0, 0, "by default: minus zero that is taken" },
+        { "AAAAB", 1, 1, "by default: minus zero as a name" },
+        { "AAAAD", 1, 1, "by default: a name sum below 0" },
+        { "AA+/////DA,AA+/////DA,AAEA", 1, 0, "by default: a source line of 2^32" },
+        { "AAA+/////D,AAA+/////D,AAAE", 1, 0, "by default: a source column of 2^32" },
+    };
+    for (size_t i = 0; i < sizeof rows / sizeof *rows; i++) {
+        size_t len = strlen(rows[i].text);
+        int ok = 1;
+        int same = alike_in(DEFAULT, CHECKED, rows[i].text, len, rows[i].s, rows[i].n, 24, &ok);
+        int apart = !alike_in(DEFAULT, LENIENT, rows[i].text, len, rows[i].s, rows[i].n, 24, &ok);
+        check(ok && same && apart, rows[i].what);
+    }
+    static const char *const parts[] = { "A", "A", "A", "A", "C", "C", "D", "E", ",", ",", ",", ";", "B", "hA", "gA", "+/////D", "//////D",
+        "ggggggE", "hgggggE", "+/////H", "ggggggI", "ggggggggggggA", "ggggggggggggQ", "hgggggggggggQ", "g", "!" };
+    int ok = 1, same = 1;
+    unsigned apart = 0;
+    for (unsigned r = 0; r < rounds; r++) {
+        char text[96];
+        size_t len = 0;
+        for (uint32_t i = below(24); i > 0; i--) {
+            const char *part = parts[below(sizeof parts / sizeof *parts)];
+            if (len + strlen(part) > sizeof text) break;
+            memcpy(text + len, part, strlen(part));
+            len += strlen(part);
+        }
+        uint32_t s = below(3) ? 1 + below(3) : none, n = below(3) ? 1 + below(3) : none;
+        size_t numbers = below(4) ? 96 : below(96);
+        same &= alike_in(DEFAULT, CHECKED, text, len, s, n, numbers, &ok);
+        apart += !alike_in(DEFAULT, LENIENT, text, len, s, n, numbers, &ok);
+    }
+    check(ok && same, "by default: texts at random, as in checked mode");
+    check(apart > rounds / 20, "by default: texts on which lenient mode says something else");
 }
 
 static int same_chunk(pgk_chunk a, pgk_chunk b) { return memcmp(&a, &b, sizeof a) == 0; }
@@ -263,13 +320,12 @@ static void writing(unsigned rounds) {
     deep[0] = 4294967295u;
     check(encode_all(deep, 6, deep_line, 35, 0, 0, 35, done, got), "the largest numbers are written in 35 bytes");
     uint32_t back_again[6];
-    check(decode_all(2, (char *)got, 35, 4294967295u, 4294967295u, 6, (pgk_decoded){ 6, 0, 0, 0 }, NULL), "the largest steps, checked");
-    for (int mode = 0; mode < 2; mode++) {
-        int ok = decode_all(mode, (char *)got, 35, 4294967295u, 4294967295u, 6, (pgk_decoded){ 0, 0, 1, 35 }, back_again);
-        check(ok && memcmp(back_again + 1, deep + 1, 20) == 0, "4294967295 sources and names");
-        check(decode_all(mode, (char *)got, 35, 4294967294u, 4294967295u, 6, (pgk_decoded){ 4, 0, 0, 7 }, NULL), "4294967294 sources");
-        check(decode_all(mode, (char *)got, 35, 4294967295u, 4294967294u, 6, (pgk_decoded){ 5, 4294967294u, 0, 28 }, NULL), "4294967294 names");
-    }
+    check(decode_all(CHECKED, (char *)got, 35, 4294967295u, 4294967295u, 6, (pgk_decoded){ 6, 0, 0, 0 }, NULL), "the largest steps, checked");
+    check(decode_all(DEFAULT, (char *)got, 35, 4294967295u, 4294967295u, 6, (pgk_decoded){ 6, 0, 0, 0 }, NULL), "the largest steps, by default");
+    int far_ids = decode_all(LENIENT, (char *)got, 35, 4294967295u, 4294967295u, 6, (pgk_decoded){ 0, 0, 1, 35 }, back_again);
+    check(far_ids && memcmp(back_again + 1, deep + 1, 20) == 0, "4294967295 sources and names");
+    check(decode_all(LENIENT, (char *)got, 35, 4294967294u, 4294967295u, 6, (pgk_decoded){ 4, 0, 0, 7 }, NULL), "4294967294 sources");
+    check(decode_all(LENIENT, (char *)got, 35, 4294967295u, 4294967294u, 6, (pgk_decoded){ 5, 4294967294u, 0, 28 }, NULL), "4294967294 names");
     int round = 1, joined = 1, room = 1;
     unsigned wide = 0;
     for (unsigned r = 0; r < rounds; r++) {
@@ -288,9 +344,9 @@ static void writing(unsigned rounds) {
         int ok = 1;
         pgk_encoded e = encode_at(FIRST, FIRST, table, 6 * count, c, whole, 4096, &ok);
         round &= ok && e.code == 0 && e.next.start == count && e.next.end == count;
-        int mode = (int)below(3);
+        int mode = (int)below(MODES);
         pgk_decoded d = decode_at(mode, LAST, LAST, whole, e.bytes, 4294967295u, 4294967295u, read, 6 * count, &ok);
-        if (mode == 2 && pgk_meets_checked_premises(table, 6 * count, 4294967295u, 4294967295u) == 0) {
+        if (mode != LENIENT && pgk_meets_checked_premises(table, 6 * count, 4294967295u, 4294967295u) == 0) {
             round &= ok && d.code == PGK_WIDE_VALUE;
             wide++;
         } else {
@@ -427,7 +483,7 @@ static void sizing(unsigned rounds) {
         size_t size = needed(text, len);
         for (place w = FIRST; w < PLACES; w++) by_rule &= size_at(w, text, len, &by_rule) == size;
         most &= size <= PGK_WIDTH * (delimiters + 1);
-        for (int mode = 0; mode < 3; mode++) {
+        for (int mode = DEFAULT; mode < MODES; mode++) {
             uint32_t table[PGK_WIDTH * 97];
             pgk_decoded d = decode_at(mode, HEAP, LAST, text, len, 8, 8, table, size, &fits);
             fits &= d.code != PGK_TABLE_FULL && (d.code != PGK_DONE || PGK_WIDTH * d.tokens == size);
@@ -766,6 +822,7 @@ int main(int argc, char **argv) {
     header();
     worked();
     texts(rounds);
+    by_default(4 * rounds);
     sizing(rounds);
     writing(rounds);
     translating(rounds);

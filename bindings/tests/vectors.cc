@@ -17,7 +17,7 @@ static const uint8_t *lent(const std::vector<uint8_t> &v) { return v.empty() ? &
 
 static pgk_decoded decoded(const std::vector<uint8_t> &text, std::vector<uint32_t> &table) {
     table.resize(pgk_table_size(lent(text), text.size()));
-    pgk_decoded d = pgk_decode_checked(lent(text), text.size(), 1, 0, lent(table), table.size());
+    pgk_decoded d = pgk_decode(lent(text), text.size(), 1, 0, lent(table), table.size());
     table.resize(PGK_WIDTH * d.tokens);
     return d;
 }
@@ -42,6 +42,8 @@ int main() {
     d = decoded({ 'A', 'A', 'E' }, table);
     check(d.code == PGK_BAD_SEGMENT_SIZE && table.empty(), "a refusal");
     check(pgk_words(d.code) != pgk_words(PGK_DONE), "its words");
+    d = decoded({ 'g', 'g', 'g', 'g', 'g', 'g', 'E' }, table);
+    check(d.code == PGK_WIDE_VALUE && table.empty(), "the decode that names no mode is checked");
     check(pgk_version() == PGK_VERSION, "the version");
     std::printf("%u passed, %u failed\n", passed, failed);
     return failed != 0;

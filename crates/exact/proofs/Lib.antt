@@ -1,0 +1,5 @@
+pub mod Runs
+pub mod Fields
+pub mod Sums
+pub mod Steps
+pub mod Exact

@@ -14,9 +14,10 @@ use Rattle.apply.specs.declared.State.{State}
 use Rattle.step.specs.declared.Step.{Step}
 use Rattle.step.specs.Step.{start, stepAt}
 use Rattle.decode.specs.declared.Decoded.{Decoded}
-use Rattle.decode.specs.Mapping.{Out, full, placed, run, decoded}
+use Rattle.decode.specs.Mapping.{Out, full, placed, run, decoded, Decodes}
+use Rattle.decode.proofs.Where.{located}
 use Rattle.exact.specs.Text as text
-use Rattle.exact.specs.Exact.{NothingLost}
+use Rattle.exact.specs.Exact.{Exact, LosesNothing, NothingLost}
 use Rattle.exact.proofs.Sums.{other, Tracks}
 use Rattle.exact.proofs.Steps.{Behind, Ahead, Both, Goes, goes}
 
@@ -53,14 +54,27 @@ module _ (sources names : ℕ) (bytes : List ℕ) where
 at-start : Tracks start text.zero
 at-start = record { line = refl; column = refl; srcLine = refl; srcColumn = refl; source = refl; name = refl }
 
-pub nothing-lost : NothingLost
-nothing-lost sources names bytes table r table′ d e =
-    let h : Ahead start bytes (decoded Mode.Checked sources names bytes (places (length table)) .tokens) = reads sources names bytes (places (length table)) start (rw (d .says) at e) .0 in
+taken : (sources names : ℕ) (bytes table : List ℕ) (r : Decoded) (table′ : List ℕ) → Decodes Mode.Checked sources names bytes table r table′
+    → r .code ≡ Code.Done → Exact bytes table (r .tokens) table′
+taken sources names bytes table r table′ d e =
+    let o : Out = decoded Mode.Checked sources names bytes (places (length table)) in
+    let h : Ahead start bytes (o .tokens) = reads sources names bytes (places (length table)) start (rw (d .says) at e) .0 in
     record {
-      tokens = decoded Mode.Checked sources names bytes (places (length table)) .tokens;
-      count = ap (λ (x : Decoded). x .tokens) (d .says);
+      tokens = o .tokens;
+      counted = ap (λ (x : Decoded). x .tokens) (d .says);
       wrote = d .wrote;
       parts = record { first = h .first; parts = h .parts };
       spelled = h .spelled;
       sums = h .sums text.zero at-start;
+    }
+
+-- what stands before a refused segment is a text that is taken
+pub nothing-lost : NothingLost
+nothing-lost =
+    record {
+      taken = taken;
+      kept =
+          λ sources names bytes table r table′ d n.
+          let f = located Mode.Checked sources names bytes table r table′ d n in
+          (f .begin, (f .segment, (f .from, taken sources names _ table _ table′ (f .kept) refl)));
     }

@@ -61,7 +61,7 @@ tracks-after s w semicolon h =
     let e : (s .«dst_line» + 1) % 2 ^ 32 ≡ (w .line + 1) % 2 ^ 32 = omega (arith, h .line) in
     record { line = e; column = refl; srcLine = h .srcLine; srcColumn = h .srcColumn; source = h .source; name = h .name }
 
-is-delimiter : (d : Delimiter) → isDelim (character d) ≡ true
+pub is-delimiter : (d : Delimiter) → isDelim (character d) ≡ true
 unfolding isDelim
 is-delimiter comma = refl
 is-delimiter semicolon = refl
@@ -108,14 +108,21 @@ module _ (sources names : ℕ) where
 
       by : (a : Applied) → Lands next a → Takes (p .known) s a → Goes s (b ∷ bs) (stepped (s .at) (starts fs) a)
       by (Applied.Refused code about) l k = k
-      by (Applied.Took t s′) l k =
-          (rw l (border .0), (rw l (border .1), λ ts h.
-          (record {
-            first = k .segment;
-            parts = h .parts;
-            spelled = p .spelled ∙ ap (λ (x : List ℕ). x ++ asRead (drop (next - s .at) (b ∷ bs))) (k .spelled) ∙ ap (λ (x : List ℕ). spellSegment (k .segment) ++ x) (rw l at (h .spelled));
-            sums = λ w q. rw (k .shown w q, h .sums (added w (k .segment)) (k .tracks w q));
-          }, λ z. yes-no (sym z ∙ d))))
+      by (Applied.Took t s′) l k = (
+        rw l (border .0),
+        (
+          rw l (border .1),
+          λ ts h. (
+            record {
+              first = k .segment;
+              parts = h .parts;
+              spelled = p .spelled ∙ ap (λ (x : List ℕ). x ++ asRead (drop (next - s .at) (b ∷ bs))) (k .spelled) ∙ ap (λ (x : List ℕ). spellSegment (k .segment) ++ x) (rw l at (h .spelled));
+              sums = λ w q. rw (k .shown w q, h .sums (added w (k .segment)) (k .tracks w q));
+            },
+            λ z. yes-no (sym z ∙ d),
+          ),
+        ),
+      )
 
   pub goes : (s : State) (bs : List ℕ) → Goes s bs (stepFrom Mode.Checked sources names s bs)
   unfolding stepFrom isDelim asRead spellParts partsTokens wholes

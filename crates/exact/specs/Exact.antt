@@ -2,16 +2,18 @@
 -- it. Assumes nothing.
 use mathlib.Core.Path.{_≡_}
 use mathlib.Core.List.{List, [], _∷_}
-use Prim.Native.Nat.{ℕ}
+use Prim.Native.Nat.{ℕ, _≤_}
 use lib.IntN.{pos}
-use lib.ListN.{length}
+use lib.ListN.{length, take}
 use Rattle.list.specs.Pick.{pick}
 use Rattle.code.specs.declared.Code.{Code}
 use Rattle.digits.specs.Digits.{digitOf, isDelim, charOf}
 use Rattle.token.specs.Table.{over}
 use Rattle.token.specs.declared.Token.{Token}
+use Rattle.value.specs.declared.Mode.{Mode}
 use Rattle.decode.specs.declared.Decoded.{Decoded}
 use Rattle.decode.specs.Mapping.{byDefault, Decodes}
+use Rattle.decode.specs.Where.{Begins}
 use Rattle.exact.specs.Text.{Text, spellText, Whole, wholeTokens}
 
 -- the text as its digits read: a byte that is no delimiter and none of the sixty-four characters counts as `/`
@@ -35,17 +37,29 @@ unfoldable pub wholes : List Token → List Whole
 wholes [] = []
 wholes (t ∷ ts) = whole t ∷ wholes ts
 
--- the tokens in the table, and the text's parts: each number of each token is the running sum of the values
-pub record Exact (text table : List ℕ) (r : Decoded) (table′ : List ℕ) : Type 0 where
+-- so many tokens in the table, and the text's parts: each number of each token is the running sum of the values
+pub record Exact (text table : List ℕ) (count : ℕ) (table′ : List ℕ) : Type 0 where
   pub tokens : List Token
-  pub count : r .tokens ≡ length tokens
+  pub counted : count ≡ length tokens
   pub wrote : table′ ≡ over tokens table
   pub parts : Text
   pub spelled : asRead text ≡ spellText parts
   pub sums : wholes tokens ≡ wholeTokens parts
 
--- so it is of every text that the decode which names no mode takes
+-- of a mode: so it is of every text that it takes; and where it refuses one, of the tokens that are kept and the text before the refused
+-- segment
+pub record LosesNothing (mode : Mode) : Type 0 where
+  pub taken :
+      (sources names : ℕ) (text table : List ℕ) (r : Decoded) (table′ : List ℕ) → Decodes mode sources names text table r table′
+      → r .code ≡ Code.Done → Exact text table (r .tokens) table′
+  pub kept :
+      (sources names : ℕ) (text table : List ℕ) (r : Decoded) (table′ : List ℕ) → Decodes mode sources names text table r table′
+      → (r .code ≡ Code.Done → ⊥) → (begin : ℕ) × (Begins text begin × ((begin ≤ r .offset) × Exact (take begin text) table (r .tokens) table′))
+
+-- the decode that names no mode loses nothing
 abbrev pub NothingLost : Type 0
-NothingLost =
-    (sources names : ℕ) (text table : List ℕ) (r : Decoded) (table′ : List ℕ) → Decodes byDefault sources names text table r table′
-    → r .code ≡ Code.Done → Exact text table r table′
+NothingLost = LosesNothing byDefault
+
+-- a text is read in one way: parts that are spelled alike have the same sums
+abbrev pub OneReading : Type 0
+OneReading = (p q : Text) → spellText p ≡ spellText q → wholeTokens p ≡ wholeTokens q

@@ -1,6 +1,6 @@
 -- Where the decode that names no mode takes a text, no value and no sum lost a bit. Assumes nothing.
-use mathlib.Core.Path.{_≡_, refl, sym, _∙_, ap, subst}
-use mathlib.Core.List.{List, [], _∷_}
+use mathlib.Core.Path.{_≡_, refl, _∙_, ap}
+use mathlib.Core.List.{List, _∷_}
 use Prim.Native.Nat.{ℕ, zero, suc, _+_, _-_}
 use native.Mathlib.Omega.{arith}
 use lib.ListN.{length, drop}
@@ -9,7 +9,6 @@ use Rattle.code.specs.declared.Code.{Code}
 use Rattle.token.specs.Table.{places}
 use Rattle.token.specs.declared.Token.{Token}
 use Rattle.value.specs.declared.Mode.{Mode}
-use Rattle.segment.proofs.Border.{Border}
 use Rattle.apply.specs.declared.State.{State}
 use Rattle.step.specs.declared.Step.{Step}
 use Rattle.step.specs.Step.{start, stepAt}
@@ -17,9 +16,9 @@ use Rattle.decode.specs.declared.Decoded.{Decoded}
 use Rattle.decode.specs.Mapping.{Out, full, placed, run, decoded, Decodes}
 use Rattle.decode.proofs.Where.{located}
 use Rattle.exact.specs.Text as text
-use Rattle.exact.specs.Exact.{Exact, LosesNothing, NothingLost}
+use Rattle.exact.specs.Exact.{Exact, NothingLost}
 use Rattle.exact.proofs.Sums.{other, Tracks}
-use Rattle.exact.proofs.Steps.{Behind, Ahead, Both, Goes, goes}
+use Rattle.exact.proofs.Steps.{Ahead, Both, Goes, goes}
 
 module _ (sources names : ℕ) (bytes : List ℕ) where
   -- where the rest of a text is taken
@@ -51,7 +50,7 @@ module _ (sources names : ℕ) (bytes : List ℕ) where
       by Step.Done g ih = λ e. g
 
 -- all numbers start at 0
-at-start : Tracks start text.zero
+at-start : Tracks start text.begun
 at-start = record { line = refl; column = refl; srcLine = refl; srcColumn = refl; source = refl; name = refl }
 
 taken : (sources names : ℕ) (bytes table : List ℕ) (r : Decoded) (table′ : List ℕ) → Decodes Mode.Checked sources names bytes table r table′
@@ -65,7 +64,7 @@ taken sources names bytes table r table′ d e =
       wrote = d .wrote;
       parts = record { first = h .first; parts = h .parts };
       spelled = h .spelled;
-      sums = h .sums text.zero at-start;
+      sums = h .sums text.begun at-start;
     }
 
 -- what stands before a refused segment is a text that is taken

@@ -1,6 +1,6 @@
 -- A text has one reading: parts that are spelled alike have the same values, so the same sums. Assumes nothing.
 use mathlib.Core.Path.{_≡_, refl, sym, _∙_, ap, subst}
-use mathlib.Core.Bool.{true, false}
+use mathlib.Core.Bool.{true}
 use mathlib.Core.List.{List, [], _∷_, _++_, append-assoc, append-nil}
 use Prim.Native.Nat.{ℕ, _<_, _≤_}
 use native.Mathlib.Omega.{arith}
@@ -15,7 +15,7 @@ use Rattle.value.specs.Standard.{Run, terminal, goes-on, isRun, unsigned, signe
 use Rattle.value.specs.declared.Judged.the-variants.{Is}
 use Rattle.vlq.specs.Runs.{spell}
 use Rattle.segment.proofs.Border.{Border}
-use Rattle.exact.specs.Text.{Value, Segment, nothing, one, four, five, Delimiter, comma, semicolon, character, Part, Text, spellSegment, spellParts, spellText, Sums, zero, added, delimited, Whole, tokenOf, partsTokens, wholeTokens}
+use Rattle.exact.specs.Text.{Value, Segment, nothing, one, four, five, Delimiter, comma, semicolon, character, Part, spellSegment, spellParts, Numbers, begun, added, delimited, tokenOf, partsTokens}
 use Rattle.exact.specs.Exact.{OneReading}
 use Rattle.exact.proofs.Sums.{other}
 use Rattle.exact.proofs.Steps.{is-delimiter}
@@ -84,14 +84,14 @@ abbrev spelled : List Value → List ℕ
 spelled [] = []
 spelled (v ∷ vs) = spell (v .run) ++ spelled vs
 
-abbrev numbers : List Value → List ℤ
-numbers [] = []
-numbers (v ∷ vs) = v .number ∷ numbers vs
+abbrev numbersOf : List Value → List ℤ
+numbersOf [] = []
+numbersOf (v ∷ vs) = v .number ∷ numbersOf vs
 
 same-number : (v u : Value) → v .run ≡ u .run → v .number ≡ u .number
 same-number v u e = let x : Is (v .number) ≡ Is (u .number) = sym (v .says) ∙ ap (λ (r : Run). signed (unsigned r)) e ∙ u .says in cc
 
-same-values : (vs us : List Value) (l m : List ℕ) → Border l → Border m → spelled vs ++ l ≡ spelled us ++ m → (numbers vs ≡ numbers us) × (l ≡ m)
+same-values : (vs us : List Value) (l m : List ℕ) → Border l → Border m → spelled vs ++ l ≡ spelled us ++ m → (numbersOf vs ≡ numbersOf us) × (l ≡ m)
 same-values [] [] l m p q w = (refl, w)
 same-values [] (u ∷ us) l m p q w =
     no-border (u .run) (spelled us ++ m) l (u .digits) p (sym (append-assoc (spell (u .run)) (spelled us) m) ∙ sym w)
@@ -113,9 +113,9 @@ in-a-row (five a b c d e) = rw (append-nil (spell (e .run)))
 
 -- the numbers alone tell the sums and the token
 abbrev SameSums : Segment → Segment → Type 0
-SameSums g h = (w : Sums) → (added w g ≡ added w h) × (tokenOf (added w g) g ≡ tokenOf (added w h) h)
+SameSums g h = (w : Numbers) → (added w g ≡ added w h) × (tokenOf (added w g) g ≡ tokenOf (added w h) h)
 
-same-sums : (g h : Segment) → numbers (values g) ≡ numbers (values h) → SameSums g h
+same-sums : (g h : Segment) → numbersOf (values g) ≡ numbersOf (values h) → SameSums g h
 unfolding added tokenOf
 same-sums nothing nothing e = λ w. (refl, refl)
 same-sums nothing (one a) e = other cc
@@ -151,7 +151,7 @@ same-delimiter comma semicolon w = absurd (omega (arith, w))
 same-delimiter semicolon comma w = absurd (omega (arith, w))
 same-delimiter semicolon semicolon w = refl
 
-same-parts : (ps qs : List Part) → spellParts ps ≡ spellParts qs → (w : Sums) → partsTokens w ps ≡ partsTokens w qs
+same-parts : (ps qs : List Part) → spellParts ps ≡ spellParts qs → (w : Numbers) → partsTokens w ps ≡ partsTokens w qs
 unfolding spellParts partsTokens
 same-parts [] [] e w = refl
 same-parts [] (q ∷ qs) e w = other cc
@@ -165,5 +165,5 @@ same-parts (p ∷ ps) (q ∷ qs) e w =
 pub one-reading : OneReading
 one-reading p q e =
     let y = same-segment (p .first) (q .first) (p .parts) (q .parts) e in
-    let z = y .0 zero in
-    rw (z .1, z .0, same-parts (p .parts) (q .parts) (y .1) (added zero (q .first)))
+    let z = y .0 begun in
+    rw (z .1, z .0, same-parts (p .parts) (q .parts) (y .1) (added begun (q .first)))

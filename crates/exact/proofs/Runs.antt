@@ -1,14 +1,14 @@
 -- A value that is read stands in the text as a run of the standard's digits, and checked mode takes it for what the run says. Assumes
 -- nothing.
-use mathlib.Core.Path.{_≡_, refl, sym, _∙_, ap, subst}
+use mathlib.Core.Path.{_≡_, refl, _∙_, ap}
 use mathlib.Core.Bool.{Bool, true, false}
 use mathlib.Core.List.{List, [], _∷_, _++_}
-use Prim.Native.Nat.{ℕ, suc, _+_, _-_, _*_, _/_, _%_, _^_, _<_, _≤_}
+use Prim.Native.Nat.{ℕ, suc, _+_, _-_, _<_, _≤_}
 use native.Mathlib.Omega.{arith}
 use lib.Dec.{eqb, leb, ltb}
 use lib.ListN.{drop}
-use borrow.Author.Tests.{ltb-true, ltb-false, leb-true, le-leb, lt-ltb}
-use Rattle.list.specs.Pick.{pick, both}
+use borrow.Author.Tests.{ltb-false, leb-true, le-leb, lt-ltb}
+use Rattle.list.specs.Pick.{pick}
 use Rattle.list.proofs.Pick.{pick-ind}
 use Rattle.digits.specs.Digits.{within, digitOf, isDelim, charOf}
 use Rattle.value.specs.Standard.{Run, terminal, goes-on, isRun, unsigned, signed}

@@ -20,23 +20,23 @@ use Rattle.apply.specs.Apply.{applied}
 use Rattle.apply.proofs.Lands.{Lands, lands}
 use Rattle.step.specs.declared.Step.{Step}
 use Rattle.step.specs.Step.{commaed, lined, stepped, segmentStep, stepFrom}
-use Rattle.exact.specs.Text.{Segment, nothing, Delimiter, comma, semicolon, character, Part, spellSegment, spellParts, Sums, added, delimited, tokenOf, partsTokens}
+use Rattle.exact.specs.Text.{Segment, nothing, Delimiter, comma, semicolon, character, Part, spellSegment, spellParts, Numbers, added, delimited, tokenOf, partsTokens}
 use Rattle.exact.specs.Exact.{asRead, whole, wholes}
-use Rattle.exact.proofs.Fields.{Known, fieldsOf, Parts, Parted, parted}
-use Rattle.exact.proofs.Sums.{Refusal, other, Tracks, Taken, Takes, takes}
+use Rattle.exact.proofs.Fields.{Parts, Parted, parted}
+use Rattle.exact.proofs.Sums.{Refusal, other, Tracks, Takes, takes}
 
 -- the bytes at the state's place, which begin with a delimiter or are none, and the tokens to come
 pub record Behind (s : State) (bs : List ℕ) (ts : List Token) : Type 0 where
   pub parts : List Part
   pub spelled : asRead bs ≡ spellParts parts
-  pub sums : (w : Sums) → Tracks s w → wholes ts ≡ partsTokens w parts
+  pub sums : (w : Numbers) → Tracks s w → wholes ts ≡ partsTokens w parts
 
 -- the same of any bytes: a segment stands before
 pub record Ahead (s : State) (bs : List ℕ) (ts : List Token) : Type 0 where
   pub first : Segment
   pub parts : List Part
   pub spelled : asRead bs ≡ spellSegment first ++ spellParts parts
-  pub sums : (w : Sums) → Tracks s w → wholes ts ≡ tokenOf (added w first) first ++ partsTokens (added w first) parts
+  pub sums : (w : Numbers) → Tracks s w → wholes ts ≡ tokenOf (added w first) first ++ partsTokens (added w first) parts
 
 abbrev pub Both : State → List ℕ → List Token → Type 0
 Both s bs ts = Ahead s bs ts × (Border bs → Behind s bs ts)
@@ -54,7 +54,7 @@ abbrev after : State → Delimiter → State
 after s comma = commaed s
 after s semicolon = lined s
 
-tracks-after : (s : State) (w : Sums) (d : Delimiter) → Tracks s w → Tracks (after s d) (delimited w d)
+tracks-after : (s : State) (w : Numbers) (d : Delimiter) → Tracks s w → Tracks (after s d) (delimited w d)
 unfolding delimited
 tracks-after s w comma h = record { line = h .line; column = h .column; srcLine = h .srcLine; srcColumn = h .srcColumn; source = h .source; name = h .name }
 tracks-after s w semicolon h =

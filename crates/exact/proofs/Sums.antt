@@ -14,7 +14,6 @@ use Rattle.list.proofs.Pick.{pick-ind}
 use Rattle.code.specs.declared.Code.{Code}
 use Rattle.token.specs.Table.{noId}
 use Rattle.token.specs.declared.Token.{Token}
-use Rattle.value.specs.Standard.{Run, isRun, unsigned, signed}
 use Rattle.value.specs.Value.{numberOf, isWide}
 use Rattle.value.specs.declared.Mode.{Mode}
 use Rattle.value.specs.declared.Judged.{Judged}
@@ -31,7 +30,7 @@ use Rattle.apply.specs.declared.Moved.{Moved}
 use Rattle.apply.specs.declared.Applied.{Applied}
 use Rattle.apply.specs.Apply as apply
 use Rattle.apply.specs.Apply.{withColumn, withSource, withName, kept, num, columned, sourced, mapped, named, onward, counted, applied}
-use Rattle.exact.specs.Text.{Value, Segment, one, four, five, spellSegment, Sums, added, Whole, shown, tokenOf}
+use Rattle.exact.specs.Text.{Value, Segment, one, four, five, spellSegment, Numbers, added, shown, tokenOf}
 use Rattle.exact.specs.Exact as exact
 use Rattle.exact.proofs.Fields.{Known, fieldsOf, spellAll}
 
@@ -119,7 +118,7 @@ narrow i f fs l n = by (isWide (f .value)) refl (rw (lt-ltb i 5 l) at n)
     by false e q = (e, q)
 
 -- ---- the state's numbers are these sums
-pub record Tracks (s : State) (w : Sums) : Type 0 where
+pub record Tracks (s : State) (w : Numbers) : Type 0 where
   pub line : s .«dst_line» ≡ w .line % 2 ^ 32
   pub column : pos (s .«dst_col») ≡ w .column
   pub srcLine : pos (s .«src_line») ≡ w .srcLine
@@ -127,15 +126,15 @@ pub record Tracks (s : State) (w : Sums) : Type 0 where
   pub source : pos (s .«source_id») ≡ w .source
   pub name : pos (s .«name_id») ≡ w .name
 
-shows : (s : State) (w : Sums) → Tracks s w → (source name : ℕ) (i j : ℤ) → pos source ≡ i → pos name ≡ j → shown w i j ≡ exact.whole (apply.shown s source name)
+shows : (s : State) (w : Numbers) → Tracks s w → (source name : ℕ) (i j : ℤ) → pos source ≡ i → pos name ≡ j → shown w i j ≡ exact.whole (apply.shown s source name)
 shows s w h source name i j p q = rw (h .line, h .column, h .srcLine, h .srcColumn, p, q)
 
 -- a segment of these runs, taken
 pub record Taken (ks : List Known) (s : State) (t : Token) (s′ : State) : Type 0 where
   pub segment : Segment
   pub spelled : spellAll ks ≡ spellSegment segment
-  pub tracks : (w : Sums) → Tracks s w → Tracks s′ (added w segment)
-  pub shown : (w : Sums) → Tracks s w → tokenOf (added w segment) segment ≡ exact.whole t ∷ []
+  pub tracks : (w : Numbers) → Tracks s w → Tracks s′ (added w segment)
+  pub shown : (w : Numbers) → Tracks s w → tokenOf (added w segment) segment ≡ exact.whole t ∷ []
 
 abbrev pub Takes : List Known → State → Applied → Type 0
 Takes ks s (Applied.Took t s′) = Taken ks s t s′
@@ -161,7 +160,7 @@ module _ (sources names : ℕ) (s : State) (next : ℕ) where
     unfolding counted spellSegment added tokenOf
     with-one =
         columned-by (Takes ks s) (no ks) s (segment ks) _ λ n e.
-        let tracks : (w : Sums) → Tracks s w → Tracks (withColumn s n next) (added w (one a)) =
+        let tracks : (w : Numbers) → Tracks s w → Tracks (withColumn s n next) (added w (one a)) =
         λ w h.
         record { line = h .line; column = rw (← h .column) e; srcLine = h .srcLine; srcColumn = h .srcColumn; source = h .source; name = h .name }
         in
@@ -169,7 +168,7 @@ module _ (sources names : ℕ) (s : State) (next : ℕ) where
           segment = one a;
           spelled = append-nil (spell (k₀ .run));
           tracks = tracks;
-          shown = λ w h. ap (λ (x : Whole). x ∷ []) (shows (withColumn s n next) (added w (one a)) (tracks w h) noId noId _ _ refl refl);
+          shown = λ w h. ap (λ (x : Numbers). x ∷ []) (shows (withColumn s n next) (added w (one a)) (tracks w h) noId noId _ _ refl refl);
         }
       where
         ks : List Known
@@ -190,7 +189,7 @@ module _ (sources names : ℕ) (s : State) (next : ℕ) where
       with-four =
           columned-by (Takes ks s) (no ks) s (segment ks) _ λ n e.
           mapped-by (Takes ks s) (no ks) sources (withColumn s n next) (segment ks) _ λ i l m ei el em.
-          let tracks : (w : Sums) → Tracks s w → Tracks (withSource (withColumn s n next) i l m) (added w (four a b c d)) =
+          let tracks : (w : Numbers) → Tracks s w → Tracks (withSource (withColumn s n next) i l m) (added w (four a b c d)) =
           λ w h.
           record {
             line = h .line;
@@ -205,7 +204,7 @@ module _ (sources names : ℕ) (s : State) (next : ℕ) where
             segment = four a b c d;
             spelled = ap (λ (x : List ℕ). spell (k₀ .run) ++ (spell (k₁ .run) ++ (spell (k₂ .run) ++ x))) (append-nil (spell (k₃ .run)));
             tracks = tracks;
-            shown = λ w h. ap (λ (x : Whole). x ∷ []) (shows (withSource (withColumn s n next) i l m) (added w (four a b c d)) (tracks w h) i noId _ _ (tracks w h .source) refl);
+            shown = λ w h. ap (λ (x : Numbers). x ∷ []) (shows (withSource (withColumn s n next) i l m) (added w (four a b c d)) (tracks w h) i noId _ _ (tracks w h .source) refl);
           }
         where
           ks : List Known
@@ -217,7 +216,7 @@ module _ (sources names : ℕ) (s : State) (next : ℕ) where
           columned-by (Takes ks s) (no ks) s (segment ks) _ λ n e.
           mapped-by (Takes ks s) (no ks) sources (withColumn s n next) (segment ks) _ λ i l m ei el em.
           named-by (Takes ks s) (no ks) names (withSource (withColumn s n next) i l m) (segment ks) _ λ j ej.
-          let tracks : (w : Sums) → Tracks s w → Tracks (withName (withSource (withColumn s n next) i l m) j) (added w (five a b c d (value-of k₄ n₄))) =
+          let tracks : (w : Numbers) → Tracks s w → Tracks (withName (withSource (withColumn s n next) i l m) j) (added w (five a b c d (value-of k₄ n₄))) =
           λ w h.
           record {
             line = h .line;
@@ -234,7 +233,7 @@ module _ (sources names : ℕ) (s : State) (next : ℕ) where
             tracks = tracks;
             shown =
                 λ w h.
-                ap (λ (x : Whole). x ∷ [])
+                ap (λ (x : Numbers). x ∷ [])
                 (shows (withName (withSource (withColumn s n next) i l m) j) (added w (five a b c d (value-of k₄ n₄))) (tracks w h) i j _ _ (tracks w h .source) (tracks w h .name));
           }
         where

@@ -1,13 +1,13 @@
 -- The sums of two texts, computed. Assumes nothing.
 use mathlib.Core.Path.{_≡_, refl}
-use mathlib.Core.List.{List, [], _∷_}
+use mathlib.Core.List.{[], _∷_}
 use Prim.Native.Nat.{ℕ}
-use lib.IntN.{ℤ, pos, negsuc}
+use lib.IntN.{pos, negsuc}
 use Rattle.digits.specs.Digits.{charOf}
 use Rattle.token.specs.Table.{noId}
 use Rattle.value.specs.Standard.{terminal, goes-on, isRun, unsigned, tooWide, signed}
 use Rattle.vlq.specs.Runs.{spell}
-use Rattle.exact.specs.Text.{Value, one, four, five, Segment, comma, semicolon, Delimiter, Part, Text, spellSegment, spellParts, spellText, added, delimited, Whole, tokenOf, partsTokens, wholeTokens}
+use Rattle.exact.specs.Text.{Value, one, four, five, Segment, comma, semicolon, Delimiter, Part, Text, spellSegment, spellParts, spellText, added, delimited, Numbers, numbers, tokenOf, partsTokens, wholeTokens}
 
 -- `+/////D`, `A`, `B`, `C`, `E`, `G`
 largest : Value
@@ -38,9 +38,8 @@ plus-three = record { run = terminal 6; digits = refl; number = pos 3; says = re
 abbrev part : Delimiter → Segment → Part
 part d g = record { delimiter = d; segment = g }
 
-abbrev row : ℕ → ℕ → ℕ → ℕ → ℕ → ℕ → Whole
-row line column srcLine srcColumn source name =
-    record { line = pos line; column = pos column; srcLine = pos srcLine; srcColumn = pos srcColumn; source = pos source; name = pos name }
+abbrev row : ℕ → ℕ → ℕ → ℕ → ℕ → ℕ → Numbers
+row line column srcLine srcColumn source name = numbers line (pos column) (pos srcLine) (pos srcColumn) (pos source) (pos name)
 
 -- a text that goes up to 2^31 and back
 abbrev there-and-back : Text

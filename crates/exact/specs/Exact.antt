@@ -14,7 +14,7 @@ use Rattle.value.specs.declared.Mode.{Mode}
 use Rattle.decode.specs.declared.Decoded.{Decoded}
 use Rattle.decode.specs.Mapping.{byDefault, Decodes}
 use Rattle.decode.specs.Where.{Begins}
-use Rattle.exact.specs.Text.{Text, spellText, Whole, wholeTokens}
+use Rattle.exact.specs.Text.{Text, spellText, Numbers, numbers, wholeTokens}
 
 -- the text as its digits read: a byte that is no delimiter and none of the sixty-four characters counts as `/`
 unfoldable pub asRead : List ℕ → List ℕ
@@ -22,18 +22,10 @@ asRead [] = []
 asRead (b ∷ bs) = pick (isDelim b) b (charOf (digitOf b)) ∷ asRead bs
 
 -- the numbers of a token, as whole numbers
-abbrev pub whole : Token → Whole
-whole t =
-    record {
-      line = pos (t .«dst_line»);
-      column = pos (t .«dst_col»);
-      srcLine = pos (t .«src_line»);
-      srcColumn = pos (t .«src_col»);
-      source = pos (t .«source_id»);
-      name = pos (t .«name_id»);
-    }
+abbrev pub whole : Token → Numbers
+whole t = numbers (t .«dst_line») (pos (t .«dst_col»)) (pos (t .«src_line»)) (pos (t .«src_col»)) (pos (t .«source_id»)) (pos (t .«name_id»))
 
-unfoldable pub wholes : List Token → List Whole
+unfoldable pub wholes : List Token → List Numbers
 wholes [] = []
 wholes (t ∷ ts) = whole t ∷ wholes ts
 

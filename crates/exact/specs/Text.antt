@@ -61,8 +61,8 @@ spellText t = spellSegment (t .first) ++ spellParts (t .parts)
 
 -- ---- as whole numbers
 
--- the running sums, and how many semicolons there were
-pub record Sums : Type 0 where
+-- six numbers, of the running sums and of a token: the line counts, the others are whole
+pub record Numbers : Type 0 where
   pub line : ℕ
   pub column : ℤ
   pub srcLine : ℤ
@@ -70,52 +70,42 @@ pub record Sums : Type 0 where
   pub source : ℤ
   pub name : ℤ
 
-abbrev pub sums : ℕ → ℤ → ℤ → ℤ → ℤ → ℤ → Sums
-sums line column srcLine srcColumn source name =
+abbrev pub numbers : ℕ → ℤ → ℤ → ℤ → ℤ → ℤ → Numbers
+numbers line column srcLine srcColumn source name =
     record { line = line; column = column; srcLine = srcLine; srcColumn = srcColumn; source = source; name = name }
 
-abbrev pub zero : Sums
-zero = sums 0 (pos 0) (pos 0) (pos 0) (pos 0) (pos 0)
+abbrev pub begun : Numbers
+begun = numbers 0 (pos 0) (pos 0) (pos 0) (pos 0) (pos 0)
 
 -- each value is added to its sum
-unfoldable pub added : Sums → Segment → Sums
+unfoldable pub added : Numbers → Segment → Numbers
 added s nothing = s
-added s (one a) = sums (s .line) (s .column +ℤ a .number) (s .srcLine) (s .srcColumn) (s .source) (s .name)
+added s (one a) = numbers (s .line) (s .column +ℤ a .number) (s .srcLine) (s .srcColumn) (s .source) (s .name)
 added s (four a b c d) =
-    sums (s .line) (s .column +ℤ a .number) (s .srcLine +ℤ c .number) (s .srcColumn +ℤ d .number) (s .source +ℤ b .number) (s .name)
+    numbers (s .line) (s .column +ℤ a .number) (s .srcLine +ℤ c .number) (s .srcColumn +ℤ d .number) (s .source +ℤ b .number) (s .name)
 added s (five a b c d e) =
-    sums (s .line) (s .column +ℤ a .number) (s .srcLine +ℤ c .number) (s .srcColumn +ℤ d .number) (s .source +ℤ b .number) (s .name +ℤ e .number)
+    numbers (s .line) (s .column +ℤ a .number) (s .srcLine +ℤ c .number) (s .srcColumn +ℤ d .number) (s .source +ℤ b .number) (s .name +ℤ e .number)
 
 -- a semicolon: the next line, from column 0
-unfoldable pub delimited : Sums → Delimiter → Sums
+unfoldable pub delimited : Numbers → Delimiter → Numbers
 delimited s comma = s
-delimited s semicolon = sums (s .line + 1) (pos 0) (s .srcLine) (s .srcColumn) (s .source) (s .name)
-
--- a token's six numbers
-pub record Whole : Type 0 where
-  pub line : ℤ
-  pub column : ℤ
-  pub srcLine : ℤ
-  pub srcColumn : ℤ
-  pub source : ℤ
-  pub name : ℤ
+delimited s semicolon = numbers (s .line + 1) (pos 0) (s .srcLine) (s .srcColumn) (s .source) (s .name)
 
 -- the token that shows the sums with these ids; the line alone modulo 2^32
-abbrev pub shown : Sums → ℤ → ℤ → Whole
-shown s source name =
-    record { line = pos (s .line % 2 ^ 32); column = s .column; srcLine = s .srcLine; srcColumn = s .srcColumn; source = source; name = name }
+abbrev pub shown : Numbers → ℤ → ℤ → Numbers
+shown s source name = numbers (s .line % 2 ^ 32) (s .column) (s .srcLine) (s .srcColumn) source name
 
 -- the token of a segment whose values are added: nothing gives none; without a source, or without a name, the id is none
-unfoldable pub tokenOf : Sums → Segment → List Whole
+unfoldable pub tokenOf : Numbers → Segment → List Numbers
 tokenOf s nothing = []
 tokenOf s (one a) = shown s (pos noId) (pos noId) ∷ []
 tokenOf s (four a b c d) = shown s (s .source) (pos noId) ∷ []
 tokenOf s (five a b c d e) = shown s (s .source) (s .name) ∷ []
 
-unfoldable pub partsTokens : Sums → List Part → List Whole
+unfoldable pub partsTokens : Numbers → List Part → List Numbers
 partsTokens s [] = []
 partsTokens s (p ∷ ps) =
     tokenOf (added (delimited s (p .delimiter)) (p .segment)) (p .segment) ++ partsTokens (added (delimited s (p .delimiter)) (p .segment)) ps
 
-abbrev pub wholeTokens : Text → List Whole
-wholeTokens t = tokenOf (added zero (t .first)) (t .first) ++ partsTokens (added zero (t .first)) (t .parts)
+abbrev pub wholeTokens : Text → List Numbers
+wholeTokens t = tokenOf (added begun (t .first)) (t .first) ++ partsTokens (added begun (t .first)) (t .parts)

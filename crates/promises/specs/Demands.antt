@@ -17,6 +17,9 @@ use Rattle.decode.specs.Mapping.{Decodes}
 use Rattle.decode.specs.Where.{Located}
 use Rattle.decode.proofs.Unique as decode
 use Rattle.decode.proofs.Where as fault
+use Rattle.exact.specs.Exact.{NothingLost, OneReading}
+use Rattle.exact.proofs.Exact as exact
+use Rattle.exact.proofs.OneReading as reading
 use Rattle.table_size.specs.Size.{NeverFull}
 use Rattle.table_size.proofs.Enough as size
 use Rattle.encode.specs.Encode.{Encodes}
@@ -111,6 +114,16 @@ never-full = size.never
 -- ---- demand 2: checked mode's values are those of ECMA-426, of every run of digits that is read
 pub by-the-standard : ByTheStandard
 by-the-standard = runs.by-the-standard
+
+-- where the decode that names no mode takes a text, no value and no sum lost a bit: each number of each token is the running sum of the
+-- values as whole numbers, by the standard's rule, and a remainder is taken of the count of `;` alone. The same holds of the tokens
+-- that are kept before a refused segment
+pub nothing-lost : NothingLost
+nothing-lost = exact.nothing-lost
+
+-- and a text has one such reading
+pub one-reading : OneReading
+one-reading = reading.one-reading
 
 -- ---- demand 3
 

@@ -2,17 +2,15 @@
 use mathlib.Core.Path.{_≡_, refl}
 use mathlib.Core.List.{List, [], _∷_}
 use Prim.Native.Nat.{ℕ}
+use lib.IntN.{negsuc}
 use Rattle.code.specs.declared.Code.{Code}
 use Rattle.token.specs.Table.{noId, token}
 use Rattle.token.specs.declared.Token.{Token}
 use Rattle.digits.specs.Digits.{digitOf, isDelim}
 use Rattle.value.specs.Standard.{tooWide, signed}
-use Rattle.value.specs.Standard.{tooWide, signed}
 use Rattle.value.specs.Value.{valueOf}
 use Rattle.value.specs.declared.Mode.{Mode}
 use Rattle.value.specs.declared.Judged.{Judged}
-use Rattle.value.specs.declared.Judged.{Judged}
-use lib.IntN.{negsuc}
 use Rattle.vlq.specs.Vlq.{digitsFrom, vlqOf, vlqAt}
 use Rattle.vlq.specs.declared.Vlq.{Vlq}
 use Rattle.segment.specs.Segment.{fieldsFrom, wideFrom}

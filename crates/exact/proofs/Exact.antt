@@ -8,7 +8,6 @@ use lib.Seq.{drop-drop}
 use Rattle.code.specs.declared.Code.{Code}
 use Rattle.token.specs.Table.{places}
 use Rattle.token.specs.declared.Token.{Token}
-use Rattle.value.specs.declared.Mode.{Mode}
 use Rattle.apply.specs.declared.State.{State}
 use Rattle.step.specs.declared.Step.{Step}
 use Rattle.step.specs.Step.{start, stepAt}
@@ -16,7 +15,7 @@ use Rattle.decode.specs.declared.Decoded.{Decoded}
 use Rattle.decode.specs.Mapping.{Out, full, placed, run, decoded, Decodes}
 use Rattle.decode.proofs.Where.{located}
 use Rattle.exact.specs.Text as text
-use Rattle.exact.specs.Exact.{Exact, NothingLost}
+use Rattle.exact.specs.Exact.{mode, Exact, NothingLost}
 use Rattle.exact.proofs.Sums.{other, Tracks}
 use Rattle.exact.proofs.Steps.{Ahead, Both, Goes, goes}
 
@@ -33,19 +32,19 @@ module _ (sources names : ℕ) (bytes : List ℕ) where
       let d : drop (s′ .at - s .at) (drop (s .at) bytes) ≡ drop (s′ .at) bytes = drop-drop (s′ .at - s .at) (s .at) bytes ∙ ap (λ (k : ℕ). drop k bytes) n in
       g .1 .1 (o .tokens) (rw d (h e .1 (rw d at (g .1 .0))))
 
-  reads : (left : ℕ) (s : State) → Read s (run Mode.Checked sources names bytes left s)
+  reads : (left : ℕ) (s : State) → Read s (run mode sources names bytes left s)
   unfolding run
-  reads zero s = by (stepAt Mode.Checked sources names bytes s) (goes sources names s (drop (s .at) bytes))
+  reads zero s = by (stepAt mode sources names bytes s) (goes sources names s (drop (s .at) bytes))
     where
       by : (r : Step) → Goes sources names s (drop (s .at) bytes) r → Read s (full (length bytes) r)
       by (Step.Put t begin s′) g = λ e. other cc
       by (Step.Refuse code offset) g = λ e. absurd (g e)
       by Step.Done g = λ e. g
-  reads (suc left) s = by (stepAt Mode.Checked sources names bytes s) (goes sources names s (drop (s .at) bytes)) (reads left)
+  reads (suc left) s = by (stepAt mode sources names bytes s) (goes sources names s (drop (s .at) bytes)) (reads left)
     where
-      by : (r : Step) → Goes sources names s (drop (s .at) bytes) r → ((s′ : State) → Read s′ (run Mode.Checked sources names bytes left s′))
-          → Read s (placed (length bytes) r (run Mode.Checked sources names bytes left))
-      by (Step.Put t begin s′) g ih = there s s′ t begin (run Mode.Checked sources names bytes left s′) g (ih s′)
+      by : (r : Step) → Goes sources names s (drop (s .at) bytes) r → ((s′ : State) → Read s′ (run mode sources names bytes left s′))
+          → Read s (placed (length bytes) r (run mode sources names bytes left))
+      by (Step.Put t begin s′) g ih = there s s′ t begin (run mode sources names bytes left s′) g (ih s′)
       by (Step.Refuse code offset) g ih = λ e. absurd (g e)
       by Step.Done g ih = λ e. g
 
@@ -53,10 +52,10 @@ module _ (sources names : ℕ) (bytes : List ℕ) where
 at-start : Tracks start text.begun
 at-start = record { line = refl; column = refl; srcLine = refl; srcColumn = refl; source = refl; name = refl }
 
-taken : (sources names : ℕ) (bytes table : List ℕ) (r : Decoded) (table′ : List ℕ) → Decodes Mode.Checked sources names bytes table r table′
+taken : (sources names : ℕ) (bytes table : List ℕ) (r : Decoded) (table′ : List ℕ) → Decodes mode sources names bytes table r table′
     → r .code ≡ Code.Done → Exact bytes table (r .tokens) table′
 taken sources names bytes table r table′ d e =
-    let o : Out = decoded Mode.Checked sources names bytes (places (length table)) in
+    let o : Out = decoded mode sources names bytes (places (length table)) in
     let h : Ahead start bytes (o .tokens) = reads sources names bytes (places (length table)) start (rw (d .says) at e) .0 in
     record {
       tokens = o .tokens;
@@ -74,6 +73,6 @@ nothing-lost =
       taken = taken;
       kept =
           λ sources names bytes table r table′ d n.
-          let f = located Mode.Checked sources names bytes table r table′ d n in
+          let f = located mode sources names bytes table r table′ d n in
           (f .begin, (f .segment, (f .from, taken sources names _ table _ table′ (f .kept) refl)));
     }

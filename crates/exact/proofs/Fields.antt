@@ -7,13 +7,12 @@ use native.Mathlib.Omega.{arith}
 use lib.ListN.{drop}
 use Rattle.value.specs.Standard.{Run, isRun, unsigned, signed}
 use Rattle.value.specs.Value.{valueOf}
-use Rattle.value.specs.declared.Mode.{Mode}
 use Rattle.vlq.specs.Runs.{spell}
 use Rattle.vlq.specs.Vlq.{vlqOf}
 use Rattle.vlq.specs.declared.Vlq.{Vlq}
 use Rattle.vlq.specs.declared.Vlq.the-variants.{End, Value, Leftover, Overflow}
 use Rattle.segment.specs.Segment.{Field, Fields, whole, leftover, overflow, before, fieldThen, fieldsFrom}
-use Rattle.exact.specs.Exact.{asRead}
+use Rattle.exact.specs.Exact.{mode, asRead}
 use Rattle.exact.proofs.Runs.{Stands, Standing, standing}
 
 -- a field, and the run that it stands as
@@ -57,7 +56,7 @@ later skip at b bs (leftover place) h = tt
 later skip at b bs (overflow place) h = tt
 
 -- a value, and the fields behind it
-value-then : (at b : ℕ) (bs : List ℕ) (bits lost next : ℕ) (f : Field) → f .value ≡ valueOf Mode.Checked bits lost → Stands at (b ∷ bs) bits lost next → (r : Fields)
+value-then : (at b : ℕ) (bs : List ℕ) (bits lost next : ℕ) (f : Field) → f .value ≡ valueOf mode bits lost → Stands at (b ∷ bs) bits lost next → (r : Fields)
     → Parted (next - (at + 1)) (at + 1) bs r → Parted 0 at (b ∷ bs) (before f r)
 value-then at b bs bits lost next f e v (leftover place) h = tt
 value-then at b bs bits lost next f e v (overflow place) h = tt
@@ -72,17 +71,17 @@ value-then at b bs bits lost next f e v (whole fs end) h =
       spelled = rw n (w ∙ ap (λ (x : List ℕ). spell (v .run) ++ x) (h .spelled) ∙ sym (append-assoc (spell (v .run)) (spellAll (h .known)) (asRead (drop (end - (at + 1)) bs))));
     }
 
-pub parted : (skip at : ℕ) (bs : List ℕ) → Parted skip at bs (fieldsFrom Mode.Checked skip at bs)
+pub parted : (skip at : ℕ) (bs : List ℕ) → Parted skip at bs (fieldsFrom mode skip at bs)
 unfolding fieldsFrom asRead
 parted zero at [] = none-here 0 at [] refl
 parted (suc skip) at [] = none-here (suc skip) at [] refl
-parted (suc skip) at (b ∷ bs) = later skip at b bs (fieldsFrom Mode.Checked skip (at + 1) bs) (parted skip (at + 1) bs)
+parted (suc skip) at (b ∷ bs) = later skip at b bs (fieldsFrom mode skip (at + 1) bs) (parted skip (at + 1) bs)
 parted zero at (b ∷ bs) = by (vlqOf at (b ∷ bs)) (standing at (b ∷ bs)) (λ next. parted (next - (at + 1)) (at + 1) bs)
   where
-    by : (r : Vlq) → Standing at (b ∷ bs) r → ((next : ℕ) → Parted (next - (at + 1)) (at + 1) bs (fieldsFrom Mode.Checked (next - (at + 1)) (at + 1) bs))
-        → Parted 0 at (b ∷ bs) (fieldThen Mode.Checked at r (λ next. fieldsFrom Mode.Checked (next - (at + 1)) (at + 1) bs))
+    by : (r : Vlq) → Standing at (b ∷ bs) r → ((next : ℕ) → Parted (next - (at + 1)) (at + 1) bs (fieldsFrom mode (next - (at + 1)) (at + 1) bs))
+        → Parted 0 at (b ∷ bs) (fieldThen mode at r (λ next. fieldsFrom mode (next - (at + 1)) (at + 1) bs))
     by End v ih = none-here 0 at (b ∷ bs) refl
     by (Value bits lost next) v ih =
-        value-then at b bs bits lost next _ refl v (fieldsFrom Mode.Checked (next - (at + 1)) (at + 1) bs) (ih next)
+        value-then at b bs bits lost next _ refl v (fieldsFrom mode (next - (at + 1)) (at + 1) bs) (ih next)
     by (Leftover place) v ih = tt
     by (Overflow place) v ih = tt

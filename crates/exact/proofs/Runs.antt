@@ -13,13 +13,12 @@ use Rattle.list.proofs.Pick.{pick-ind}
 use Rattle.digits.specs.Digits.{within, digitOf, isDelim, charOf}
 use Rattle.value.specs.Standard.{Run, terminal, goes-on, isRun, unsigned, signed}
 use Rattle.value.specs.Value.{valueOf}
-use Rattle.value.specs.declared.Mode.{Mode}
 use Rattle.value.proofs.Standard.{value-standard}
 use Rattle.vlq.specs.Runs.{spell}
 use Rattle.vlq.specs.Vlq.{Digits, cut, long, num, push, digitsFrom, vlqFrom, vlqOf}
 use Rattle.vlq.specs.declared.Vlq.{Vlq}
 use Rattle.vlq.specs.declared.Vlq.the-variants.{End, Value, Leftover, Overflow}
-use Rattle.exact.specs.Exact.{asRead}
+use Rattle.exact.specs.Exact.{mode, asRead}
 
 -- ---- a digit
 up-to : (lo hi b : ℕ) → within lo hi b ≡ true → b ≤ hi
@@ -96,7 +95,7 @@ reads left (b ∷ bs) = by (isDelim b) (eqb left 0) (ltb (digitOf b) 32) refl re
 pub record Stands (at : ℕ) (bs : List ℕ) (bits lost next : ℕ) : Type 0 where
   pub run : Run
   pub digits : isRun run ≡ true
-  pub value : valueOf Mode.Checked bits lost ≡ signed (unsigned run)
+  pub value : valueOf mode bits lost ≡ signed (unsigned run)
   pub past : at < next
   pub spelled : asRead bs ≡ spell run ++ asRead (drop (next - at) bs)
 

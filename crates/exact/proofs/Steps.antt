@@ -10,7 +10,6 @@ use borrow.Author.Tests.{eqb-true}
 use Rattle.list.specs.Pick.{pick}
 use Rattle.digits.specs.Digits.{isDelim}
 use Rattle.token.specs.declared.Token.{Token}
-use Rattle.value.specs.declared.Mode.{Mode}
 use Rattle.segment.specs.Segment.{Field, Fields, leftover, overflow, starts, segmentOf, fieldsFrom}
 use Rattle.segment.specs.Segment as segment
 use Rattle.segment.proofs.Border.{Border, Ends, ends}
@@ -21,7 +20,7 @@ use Rattle.apply.proofs.Lands.{Lands, lands}
 use Rattle.step.specs.declared.Step.{Step}
 use Rattle.step.specs.Step.{commaed, lined, stepped, segmentStep, stepFrom}
 use Rattle.exact.specs.Text.{Segment, nothing, Delimiter, comma, semicolon, character, Part, spellSegment, spellParts, Numbers, added, delimited, tokenOf, partsTokens}
-use Rattle.exact.specs.Exact.{asRead, whole, wholes}
+use Rattle.exact.specs.Exact.{mode, asRead, whole, wholes}
 use Rattle.exact.proofs.Fields.{Parts, Parted, parted}
 use Rattle.exact.proofs.Sums.{Refusal, other, Tracks, Takes, takes}
 
@@ -94,17 +93,17 @@ module _ (sources names : ℕ) where
   later s d b bs (Step.Refuse code offset) a e h = h
   later s d b bs Step.Done a e h = past-one s d b bs [] e (h .0)
 
-  segment-goes : (s : State) (b : ℕ) (bs : List ℕ) → isDelim b ≡ false → (f : Fields) → fieldsFrom Mode.Checked 0 (s .at) (b ∷ bs) ≡ f → Parted 0 (s .at) (b ∷ bs) f
-      → Goes s (b ∷ bs) (segmentStep Mode.Checked sources names s f)
+  segment-goes : (s : State) (b : ℕ) (bs : List ℕ) → isDelim b ≡ false → (f : Fields) → fieldsFrom mode 0 (s .at) (b ∷ bs) ≡ f → Parted 0 (s .at) (b ∷ bs) f
+      → Goes s (b ∷ bs) (segmentStep mode sources names s f)
   unfolding segmentStep wholes
   segment-goes s b bs d (leftover place) e p = λ q. other cc
   segment-goes s b bs d (overflow place) e p = λ q. other cc
   segment-goes s b bs d (segment.whole fs next) e p =
-      by (applied Mode.Checked sources names s (segmentOf (segment.whole fs next))) (lands Mode.Checked sources names (segmentOf (segment.whole fs next)) s)
-      (subst (λ (x : List Field). Takes (p .known) s (applied Mode.Checked sources names s (segmentOf (segment.whole x next)))) (sym (p .fields)) (takes sources names s next (p .known)))
+      by (applied mode sources names s (segmentOf (segment.whole fs next))) (lands mode sources names (segmentOf (segment.whole fs next)) s)
+      (subst (λ (x : List Field). Takes (p .known) s (applied mode sources names s (segmentOf (segment.whole x next)))) (sym (p .fields)) (takes sources names s next (p .known)))
     where
       border : Ends (s .at) (b ∷ bs) (segment.whole fs next)
-      border = subst (Ends (s .at) (b ∷ bs)) e (ends Mode.Checked 0 (s .at) (b ∷ bs))
+      border = subst (Ends (s .at) (b ∷ bs)) e (ends mode 0 (s .at) (b ∷ bs))
 
       by : (a : Applied) → Lands next a → Takes (p .known) s a → Goes s (b ∷ bs) (stepped (s .at) (starts fs) a)
       by (Applied.Refused code about) l k = k
@@ -124,17 +123,17 @@ module _ (sources names : ℕ) where
         ),
       )
 
-  pub goes : (s : State) (bs : List ℕ) → Goes s bs (stepFrom Mode.Checked sources names s bs)
+  pub goes : (s : State) (bs : List ℕ) → Goes s bs (stepFrom mode sources names s bs)
   unfolding stepFrom isDelim asRead spellParts partsTokens wholes
   goes s [] = both-behind s [] [] (record { parts = []; spelled = refl; sums = λ w h. refl })
   goes s (b ∷ bs) = by (eqb b 44) (eqb b 59) refl refl (goes (commaed s) bs) (goes (lined s) bs)
     where
-      by : (x y : Bool) → eqb b 44 ≡ x → eqb b 59 ≡ y → Goes (commaed s) bs (stepFrom Mode.Checked sources names (commaed s) bs)
-          → Goes (lined s) bs (stepFrom Mode.Checked sources names (lined s) bs)
+      by : (x y : Bool) → eqb b 44 ≡ x → eqb b 59 ≡ y → Goes (commaed s) bs (stepFrom mode sources names (commaed s) bs)
+          → Goes (lined s) bs (stepFrom mode sources names (lined s) bs)
           → Goes s (b ∷ bs)
-          (pick x (stepFrom Mode.Checked sources names (commaed s) bs)
-          (pick y (stepFrom Mode.Checked sources names (lined s) bs)
-          (segmentStep Mode.Checked sources names s (fieldsFrom Mode.Checked 0 (s .at) (b ∷ bs)))))
-      by true y p q u v = later s comma b bs (stepFrom Mode.Checked sources names (commaed s) bs) refl (eqb-true b 44 p) u
-      by false true p q u v = later s semicolon b bs (stepFrom Mode.Checked sources names (lined s) bs) refl (eqb-true b 59 q) v
-      by false false p q u v = segment-goes s b bs (rw (p, q)) (fieldsFrom Mode.Checked 0 (s .at) (b ∷ bs)) refl (parted 0 (s .at) (b ∷ bs))
+          (pick x (stepFrom mode sources names (commaed s) bs)
+          (pick y (stepFrom mode sources names (lined s) bs)
+          (segmentStep mode sources names s (fieldsFrom mode 0 (s .at) (b ∷ bs)))))
+      by true y p q u v = later s comma b bs (stepFrom mode sources names (commaed s) bs) refl (eqb-true b 44 p) u
+      by false true p q u v = later s semicolon b bs (stepFrom mode sources names (lined s) bs) refl (eqb-true b 59 q) v
+      by false false p q u v = segment-goes s b bs (rw (p, q)) (fieldsFrom mode 0 (s .at) (b ∷ bs)) refl (parted 0 (s .at) (b ∷ bs))

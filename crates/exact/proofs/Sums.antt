@@ -15,7 +15,6 @@ use Rattle.code.specs.declared.Code.{Code}
 use Rattle.token.specs.Table.{noId}
 use Rattle.token.specs.declared.Token.{Token}
 use Rattle.value.specs.Value.{numberOf, isWide}
-use Rattle.value.specs.declared.Mode.{Mode}
 use Rattle.value.specs.declared.Judged.{Judged}
 use Rattle.value.specs.declared.Judged.the-variants.{Is, Wide}
 use Rattle.vlq.specs.Runs.{spell}
@@ -32,6 +31,7 @@ use Rattle.apply.specs.Apply as apply
 use Rattle.apply.specs.Apply.{withColumn, withSource, withName, kept, num, columned, sourced, mapped, named, onward, counted, applied}
 use Rattle.exact.specs.Text.{Value, Segment, one, four, five, spellSegment, Numbers, added, shown, tokenOf}
 use Rattle.exact.specs.Exact as exact
+use Rattle.exact.specs.Exact.{mode}
 use Rattle.exact.proofs.Fields.{Known, fieldsOf, spellAll}
 
 -- ---- what is kept
@@ -40,12 +40,12 @@ Keeps z Kept.Negative = Unit {0}
 Keeps z Kept.Wide = Unit {0}
 Keeps z (Kept.At n) = pos n ≡ z
 
-sum-is : (z : ℤ) → Keeps z (sumOf Mode.Checked z)
+sum-is : (z : ℤ) → Keeps z (sumOf mode z)
 unfolding sumOf reducedOf
 sum-is (pos n) = pick-ind (Keeps (pos n)) (ltb n (2 ^ 32)) (λ _. refl) (λ _. tt)
 sum-is (negsuc n) = tt
 
-name-is : (z : ℤ) → Keeps z (nameSumOf Mode.Checked z)
+name-is : (z : ℤ) → Keeps z (nameSumOf mode z)
 unfolding nameSumOf reducedOf
 name-is (pos n) = pick-ind (Keeps (pos n)) (ltb n (2 ^ 32)) (λ _. refl) (λ _. tt)
 name-is (negsuc n) = tt
@@ -78,24 +78,24 @@ module _ (P : Applied → Type 0) (no : (code : Code) (about : About) → Refusa
   source-by s z (Id.Is n) e go on h = h n e
 
   columned-by : (s : State) (g : read.Segment) (on : State → Applied)
-      → ((n : ℕ) → pos n ≡ pos (s .«dst_col») +ℤ num 0 g → P (on (withColumn s n (g .next)))) → P (onward (columned Mode.Checked s g) on)
+      → ((n : ℕ) → pos n ≡ pos (s .«dst_col») +ℤ num 0 g → P (on (withColumn s n (g .next)))) → P (onward (columned mode s g) on)
   unfolding columned
-  columned-by s g on h = kept-by _ (sumOf Mode.Checked (pos (s .«dst_col») +ℤ num 0 g)) (sum-is _) 0 (λ n. Moved.To (withColumn s n (g .next))) on h
+  columned-by s g on h = kept-by _ (sumOf mode (pos (s .«dst_col») +ℤ num 0 g)) (sum-is _) 0 (λ n. Moved.To (withColumn s n (g .next))) on h
 
   mapped-by : (sources : ℕ) (s : State) (g : read.Segment) (on : State → Applied)
       → ((i l c : ℕ) → pos i ≡ pos (s .«source_id») +ℤ num 1 g → pos l ≡ pos (s .«src_line») +ℤ num 2 g → pos c ≡ pos (s .«src_col») +ℤ num 3 g → P (on (withSource s i l c)))
-      → P (onward (mapped Mode.Checked sources s g) on)
+      → P (onward (mapped mode sources s g) on)
   unfolding mapped
   mapped-by sources s g on h =
       source-by s _ (idOf sources (pos (s .«source_id») +ℤ num 1 g)) (id-is sources _) _ on λ i ei.
-      kept-by _ (sumOf Mode.Checked (pos (s .«src_line») +ℤ num 2 g)) (sum-is _) 2 _ on λ l el.
-      kept-by _ (sumOf Mode.Checked (pos (s .«src_col») +ℤ num 3 g)) (sum-is _) 3 _ on λ c ec. h i l c ei el ec
+      kept-by _ (sumOf mode (pos (s .«src_line») +ℤ num 2 g)) (sum-is _) 2 _ on λ l el.
+      kept-by _ (sumOf mode (pos (s .«src_col») +ℤ num 3 g)) (sum-is _) 3 _ on λ c ec. h i l c ei el ec
 
   named-by : (names : ℕ) (s : State) (g : read.Segment) (on : State → Applied)
-      → ((n : ℕ) → pos n ≡ pos (s .«name_id») +ℤ num 4 g → P (on (withName s n))) → P (onward (named Mode.Checked names s g) on)
+      → ((n : ℕ) → pos n ≡ pos (s .«name_id») +ℤ num 4 g → P (on (withName s n))) → P (onward (named mode names s g) on)
   unfolding named
   named-by names s g on h =
-      kept-by _ (nameSumOf Mode.Checked (pos (s .«name_id») +ℤ num 4 g)) (name-is _) 4 _ on λ n e.
+      kept-by _ (nameSumOf mode (pos (s .«name_id») +ℤ num 4 g)) (name-is _) 4 _ on λ n e.
       pick-ind (λ (m : Moved). P (onward m on)) (ltb n names) (λ _. h n e) (λ _. no _ _ (λ q. other cc))
 
 -- ---- a field that is not too wide is a value
@@ -150,7 +150,7 @@ module _ (sources names : ℕ) (s : State) (next : ℕ) where
 
   -- past the test for a value that is too wide
   abbrev steps : List Known → Applied
-  steps ks = onward (columned Mode.Checked s (segment ks)) λ q. counted Mode.Checked sources names q (segment ks)
+  steps ks = onward (columned mode s (segment ks)) λ q. counted mode sources names q (segment ks)
 
   module _ (k₀ : Known) (n₀ : isWide (k₀ .field .value) ≡ false) where
     abbrev a : Value
@@ -270,7 +270,7 @@ module _ (sources names : ℕ) (s : State) (next : ℕ) where
   by-count (k₀ ∷ k₁ ∷ k₂ ∷ k₃ ∷ k₄ ∷ k₅ ∷ ks) h =
       refused (k₀ ∷ k₁ ∷ k₂ ∷ k₃ ∷ k₄ ∷ k₅ ∷ ks) (λ e. omega arith) (λ e. omega arith) (λ e. omega arith)
 
-  pub takes : (ks : List Known) → Takes ks s (applied Mode.Checked sources names s (segment ks))
+  pub takes : (ks : List Known) → Takes ks s (applied mode sources names s (segment ks))
   unfolding applied
   takes ks =
       pick-ind (Takes ks s) (ltb (wideFrom 0 (fieldsOf ks)) 5) (λ _ q. other cc)

@@ -38,19 +38,18 @@ pub record Exact (text table : List ℕ) (count : ℕ) (table′ : List ℕ) : T
   pub spelled : asRead text ≡ spellText parts
   pub sums : wholes tokens ≡ wholeTokens parts
 
--- of a mode: so it is of every text that it takes; and where it refuses one, of the tokens that are kept and the text before the refused
--- segment
-pub record LosesNothing (mode : Mode) : Type 0 where
+-- the mode that it is said of: that of the decode which names none
+abbrev pub mode : Mode
+mode = byDefault
+
+-- so it is of every text that is taken; and where one is refused, of the tokens that are kept and the text before the refused segment
+pub record NothingLost : Type 0 where
   pub taken :
       (sources names : ℕ) (text table : List ℕ) (r : Decoded) (table′ : List ℕ) → Decodes mode sources names text table r table′
       → r .code ≡ Code.Done → Exact text table (r .tokens) table′
   pub kept :
       (sources names : ℕ) (text table : List ℕ) (r : Decoded) (table′ : List ℕ) → Decodes mode sources names text table r table′
       → (r .code ≡ Code.Done → ⊥) → (begin : ℕ) × (Begins text begin × ((begin ≤ r .offset) × Exact (take begin text) table (r .tokens) table′))
-
--- the decode that names no mode loses nothing
-abbrev pub NothingLost : Type 0
-NothingLost = LosesNothing byDefault
 
 -- a text is read in one way: parts that are spelled alike have the same sums
 abbrev pub OneReading : Type 0

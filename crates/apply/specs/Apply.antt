@@ -5,7 +5,7 @@ use lib.IntN.{ℤ, pos, natAbs, _+ℤ_}
 use lib.ListN.{getD}
 use Rattle.list.specs.Pick.{pick}
 use Rattle.code.specs.declared.Code.{Code}
-use Rattle.token.specs.Table.{noId, token}
+use Rattle.token.specs.Table.{noId, noSegment, token}
 use Rattle.token.specs.declared.Token.{Token}
 use Rattle.value.specs.declared.Mode.{Mode}
 use Rattle.segment.specs.declared.Segment.{Segment}
@@ -66,9 +66,9 @@ named mode names s g =
     pick (ltb name names)
     (Moved.To (withName s name)) (Moved.No (Code.BadNameReference name) (About.Field 4))
 
--- the token that shows the running numbers with these ids
+-- the token that shows the running numbers with these ids; where its segment begins is said when it is placed
 abbrev pub shown : State → ℕ → ℕ → Token
-shown s source name = token (s .«dst_line») (s .«dst_col») (s .«src_line») (s .«src_col») source name
+shown s source name = token (s .«dst_line») (s .«dst_col») (s .«src_line») (s .«src_col») source name noSegment
 
 abbrev pub onward : Moved → (State → Applied) → Applied
 onward (Moved.To s) go = go s

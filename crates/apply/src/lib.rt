@@ -38,7 +38,7 @@ pub enum Applied {
     Refused(Code, About),
 }
 
-// The token that shows the running numbers with these ids.
+// The token that shows the running numbers with these ids. Where its segment begins is said when it is placed.
 fn token_of(s: State, source_id: u32, name_id: u32) -> Token
     ensures { λ r. ⌜ r ≡ shown s «source_id» «name_id» ⌝ }
 {
@@ -49,6 +49,7 @@ fn token_of(s: State, source_id: u32, name_id: u32) -> Token
         src_col: s.src_col,
         source_id,
         name_id,
+        segment: token::NONE,
     }
 }
 

@@ -21,14 +21,14 @@ pub record Made : Type 0 where
   pub token : Token
   pub added : List ℕ
 
--- unmapped: source position 0, 0, no ids
+-- unmapped: source position 0, 0, no ids; where its segment begins stays
 abbrev pub unmapped : Token → List ℕ → Made
-unmapped t added = record { token = token (t .«dst_line») (t .«dst_col») 0 0 noId noId; added = added }
+unmapped t added = record { token = token (t .«dst_line») (t .«dst_col») 0 0 noId noId (t .segment); added = added }
 
--- source position and id of the found token o
+-- source position and id of the found token o; where its segment begins stays the outer token's
 abbrev pub mappedTo : Token → Token → Named → Made
 mappedTo t o n =
-    record { token = token (t .«dst_line») (t .«dst_col») (o .«src_line») (o .«src_col») (o .«source_id») (n .id); added = n .added }
+    record { token = token (t .«dst_line») (t .«dst_col») (o .«src_line») (o .«src_col») (o .«source_id») (n .id) (t .segment); added = n .added }
 
 -- its name id if it has one, within the inner list or not, else the outer name's id
 abbrev pub found : NameList → NameList → List ℕ → List ℕ → Token → Option ℕ → Made

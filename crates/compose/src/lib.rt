@@ -36,6 +36,7 @@ fn unmapped_token(t: Token) -> Mapped
             src_col: 0,
             source_id: token::NONE,
             name_id: token::NONE,
+            segment: t.segment,
         },
         adds: false,
     }
@@ -53,6 +54,7 @@ fn mapped_to(t: Token, o: Token, id: u32, adds: bool) -> Mapped
             src_col: o.src_col,
             source_id: o.source_id,
             name_id: id,
+            segment: t.segment,
         },
         adds,
     }

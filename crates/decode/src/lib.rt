@@ -18,6 +18,9 @@ pub struct Decoded {
     pub offset: usize,
 }
 
+// Where a segment begins too late for a token to say so: 32 bits have no other number for none.
+const LATE: usize = 4294967295;
+
 fn begun() -> State
     ensures { λ r. ⌜ r ≡ start ⌝ }
 {
@@ -57,13 +60,22 @@ fn decode_in(mode: Mode, text: &[u8], sources: u32, names: u32, table: &mut [u32
                 };
             }
             Step::Put(t, begin, after) => {
-                if tokens < room {
-                    token::put_token(table, tokens, t);
-                    tokens += 1;
-                    s = step::next_after(text, after);
+                if begin < LATE {
+                    if tokens < room {
+                        let placed = token::with_segment(t, begin as u32);
+                        token::put_token(table, tokens, placed);
+                        tokens += 1;
+                        s = step::next_after(text, after);
+                    } else {
+                        return Decoded {
+                            code: Code::TableFull,
+                            tokens,
+                            offset: begin,
+                        };
+                    }
                 } else {
                     return Decoded {
-                        code: Code::TableFull,
+                        code: Code::TooBig(tokens as u32),
                         tokens,
                         offset: begin,
                     };

@@ -14,6 +14,7 @@ fn put(table: &mut [u32], i: usize, line: u32, col: u32) {
                 src_col: 0,
                 source_id: token::NONE,
                 name_id: token::NONE,
+                segment: token::NONE,
             },
         );
     }

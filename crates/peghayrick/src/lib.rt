@@ -123,7 +123,7 @@ fn answer_out(c: Code) -> Answer
 pub extern "C" fn pgk_version() -> u64
     ensures { λ r. ⌜ r ≡ version ⌝ }
 {
-    5000
+    6000
 }
 
 // The numbers that a table needs so that decoding the text never says TableFull.

@@ -8,7 +8,7 @@ use lib.Dec.{eqb}
 use lib.ListN.{length, drop, getD}
 use Rattle.list.specs.Pick.{pick}
 use Rattle.digits.specs.Digits.{isDelim}
-use Rattle.token.specs.Table.{noId, token}
+use Rattle.token.specs.Table.{noId, noSegment, token}
 use Rattle.value.specs.declared.Mode.{Mode}
 use Rattle.segment.specs.Segment.{fieldsFrom}
 use Rattle.segment.specs.Fields.{placeFrom}
@@ -37,7 +37,7 @@ steppedIn text begin (Applied.Refused code about) = Step.Refuse code (offsetIn t
 -- the step that the short way makes; that it is the segment's own is proved
 abbrev pub shortStep : State → Near → ℕ → Step
 shortStep st n k =
-    Step.Put (token (st .«dst_line») (n .«dst_col») (n .«src_line») (n .«src_col») (n .«source_id») (pick (eqb k 5) (n .«name_id») noId)) (st .at)
+    Step.Put (token (st .«dst_line») (n .«dst_col») (n .«src_line») (n .«src_col») (n .«source_id») (pick (eqb k 5) (n .«name_id») noId) noSegment) (st .at)
     (state (st .«dst_line») (n .«dst_col») (n .«src_line») (n .«src_col») (n .«source_id») (n .«name_id») (st .at + k))
 
 -- no delimiter stands at the state's place

@@ -92,6 +92,7 @@ fn short_step(st: State, n: Near, k: usize, sources: u32, names: u32) -> Step
             src_col: r.src_col,
             source_id: r.source_id,
             name_id: shown_name(k, r.name_id),
+            segment: token::NONE,
         },
         st.at,
         r,

@@ -13,18 +13,20 @@ use Rattle.token.specs.declared.Token.{Token}
 use Rattle.token.specs.Table.{row, width, places, tokenAt, tokensFrom, putToken, flat, over}
 
 -- a token's numbers, stored one after the other
-pub stored : (xs : List ℕ) (i a b c d e f : ℕ) → i + width ≤ length xs
-    → set (set (set (set (set (set xs i a) (i + 1) b) (i + 2) c) (i + 3) d) (i + 4) e) (i + 5) f ≡ blit xs i (a ∷ b ∷ c ∷ d ∷ e ∷ f ∷ [])
+pub stored : (xs : List ℕ) (i a b c d e f g : ℕ) → i + width ≤ length xs
+    → set (set (set (set (set (set (set xs i a) (i + 1) b) (i + 2) c) (i + 3) d) (i + 4) e) (i + 5) f) (i + 6) g
+    ≡ blit xs i (a ∷ b ∷ c ∷ d ∷ e ∷ f ∷ g ∷ [])
 unfolding blit
-stored xs i a b c d e f h =
+stored xs i a b c d e f g h =
     let e₁ : i + 1 ≡ suc i = omega arith in
     let e₂ : i + 2 ≡ suc (suc i) = omega arith in
     let e₃ : i + 3 ≡ suc (suc (suc i)) = omega arith in
     let e₄ : i + 4 ≡ suc (suc (suc (suc i))) = omega arith in
     let e₅ : i + 5 ≡ suc (suc (suc (suc (suc i)))) = omega arith in
-    rw (e₁, e₂, e₃, e₄, e₅)
-    (sets-eq (a ∷ b ∷ c ∷ d ∷ e ∷ f ∷ []) xs i h
-    ∙ append-assoc (take i xs) (a ∷ b ∷ c ∷ d ∷ e ∷ f ∷ []) (drop (i + 6) xs))
+    let e₆ : i + 6 ≡ suc (suc (suc (suc (suc (suc i))))) = omega arith in
+    rw (e₁, e₂, e₃, e₄, e₅, e₆)
+    (sets-eq (a ∷ b ∷ c ∷ d ∷ e ∷ f ∷ g ∷ []) xs i h
+    ∙ append-assoc (take i xs) (a ∷ b ∷ c ∷ d ∷ e ∷ f ∷ g ∷ []) (drop (i + 7) xs))
 
 pub length-flat : (ts : List Token) → length (flat ts) ≡ width * length ts
 unfolding flat
@@ -85,13 +87,14 @@ tokens-none xs i end h =
 at-shift : (t : Token) (xs : List ℕ) (i : ℕ) → tokenAt (row t ++ xs) (i + 1) ≡ tokenAt xs i
 unfolding tokenAt
 at-shift t xs i =
-    let e₀ : width * (i + 1) ≡ suc (suc (suc (suc (suc (suc (width * i)))))) = omega arith in
-    let e₁ : width * (i + 1) + 1 ≡ suc (suc (suc (suc (suc (suc (width * i + 1)))))) = omega arith in
-    let e₂ : width * (i + 1) + 2 ≡ suc (suc (suc (suc (suc (suc (width * i + 2)))))) = omega arith in
-    let e₃ : width * (i + 1) + 3 ≡ suc (suc (suc (suc (suc (suc (width * i + 3)))))) = omega arith in
-    let e₄ : width * (i + 1) + 4 ≡ suc (suc (suc (suc (suc (suc (width * i + 4)))))) = omega arith in
-    let e₅ : width * (i + 1) + 5 ≡ suc (suc (suc (suc (suc (suc (width * i + 5)))))) = omega arith in
-    rw (e₅, e₄, e₃, e₂, e₁, e₀)
+    let e₀ : width * (i + 1) ≡ suc (suc (suc (suc (suc (suc (suc (width * i))))))) = omega arith in
+    let e₁ : width * (i + 1) + 1 ≡ suc (suc (suc (suc (suc (suc (suc (width * i + 1))))))) = omega arith in
+    let e₂ : width * (i + 1) + 2 ≡ suc (suc (suc (suc (suc (suc (suc (width * i + 2))))))) = omega arith in
+    let e₃ : width * (i + 1) + 3 ≡ suc (suc (suc (suc (suc (suc (suc (width * i + 3))))))) = omega arith in
+    let e₄ : width * (i + 1) + 4 ≡ suc (suc (suc (suc (suc (suc (suc (width * i + 4))))))) = omega arith in
+    let e₅ : width * (i + 1) + 5 ≡ suc (suc (suc (suc (suc (suc (suc (width * i + 5))))))) = omega arith in
+    let e₆ : width * (i + 1) + 6 ≡ suc (suc (suc (suc (suc (suc (suc (width * i + 6))))))) = omega arith in
+    rw (e₆, e₅, e₄, e₃, e₂, e₁, e₀)
 
 tokens-shift : (t : Token) (xs : List ℕ) (i n : ℕ) → tokensFrom (row t ++ xs) (i + 1) n ≡ tokensFrom xs i n
 unfolding tokensFrom

@@ -26,7 +26,8 @@ drop-row xs i h =
       next xs (width * i + 2) (width * i + 3) (omega arith) (omega arith),
       next xs (width * i + 3) (width * i + 4) (omega arith) (omega arith),
       next xs (width * i + 4) (width * i + 5) (omega arith) (omega arith),
-      next xs (width * i + 5) (width * (i + 1)) (omega arith) (omega arith),
+      next xs (width * i + 5) (width * i + 6) (omega arith) (omega arith),
+      next xs (width * i + 6) (width * (i + 1)) (omega arith) (omega arith),
     )
 
 flat-from : (xs : List ℕ) (n i : ℕ) → width * (i + n) ≤ length xs → flat (tokensFrom xs i n) ++ drop (width * (i + n)) xs ≡ drop (width * i) xs

@@ -2,17 +2,18 @@
 ghost use mathlib.Core.Path.{_≡_};
 ghost use Prim.Native.Nat.{_<_};
 ghost use lib.ListN.{length};
-ghost use Rattle.token.specs.Table.{places, badTable, tokenAt, putToken};
+ghost use Rattle.token.specs.Table.{withSegment, places, badTable, tokenAt, putToken};
 
-// As an id: none.
+// As an id, or as where a segment begins: none.
 pub const NONE: u32 = 4294967295;
 
 // The numbers a token takes in a table.
-pub const WIDTH: usize = 6;
+pub const WIDTH: usize = 7;
 
 // The most tokens that a table may hold as input.
 pub const MOST: usize = 4294967294;
 
+// `segment` is where the token's segment begins, a byte of the text that it was decoded from.
 #[repr(C)]
 pub struct Token {
     pub dst_line: u32,
@@ -21,6 +22,7 @@ pub struct Token {
     pub src_col: u32,
     pub source_id: u32,
     pub name_id: u32,
+    pub segment: u32,
 }
 
 // A part of a table, from `start` up to `end`, and the numbers that its first token is counted from.
@@ -34,6 +36,15 @@ pub struct TokenChunk {
     pub prev_src_col: u32,
     pub prev_name_id: u32,
     pub prev_source_id: u32,
+}
+
+// The token with the place where its segment begins.
+pub fn with_segment(t: Token, segment: u32) -> Token
+    ensures { λ r. ⌜ r ≡ withSegment t segment ⌝ }
+{
+    let mut r = t;
+    r.segment = segment;
+    r
 }
 
 // How many tokens a table of so many numbers has room for.
@@ -65,6 +76,7 @@ pub fn token_at(table: &[u32], i: usize) -> Token
         src_col: table[at + 3],
         source_id: table[at + 4],
         name_id: table[at + 5],
+        segment: table[at + 6],
     }
 }
 
@@ -87,4 +99,5 @@ pub fn put_token(table: &mut [u32], i: usize, t: Token)
     table[at + 3] = t.src_col;
     table[at + 4] = t.source_id;
     table[at + 5] = t.name_id;
+    table[at + 6] = t.segment;
 }

@@ -28,6 +28,7 @@ tooBig line source name t =
 unfoldable pub moved : ℕ → ℕ → ℕ → Token → Token
 moved line source name t =
     token (t .«dst_line» + line) (t .«dst_col») (t .«src_line») (t .«src_col») (idMoved (t .«source_id») source) (idMoved (t .«name_id») name)
+    (t .segment)
 
 -- each token replaced by its translation
 unfoldable pub allMoved : ℕ → ℕ → ℕ → List Token → List Token

@@ -57,6 +57,7 @@ pub fn moved(t: Token, line: u32, source: u32, name: u32) -> Token
         src_col: t.src_col,
         source_id,
         name_id,
+        segment: t.segment,
     }
 }
 

@@ -61,12 +61,21 @@ mul-table-6 c = search needs
 slice-write-table-6 : tie.Need-slice-write-table-6
 slice-write-table-6 c = simp length-set (omega arith)
 
+add-table-6 : tie.Need-add-table-6
+add-table-6 c = search needs
+
+mul-table-7 : tie.Need-mul-table-7
+mul-table-7 c = search needs
+
+slice-write-table-7 : tie.Need-slice-write-table-7
+slice-write-table-7 c = simp length-set (omega arith)
+
 same-length : tie.Need-same-length
 same-length c = search needs
 
 returns : tie.Need-returns
 unfolding putToken
-returns c = stored _ _ _ _ _ _ _ _ (omega arith)
+returns c = stored _ _ _ _ _ _ _ _ _ (omega arith)
 
 pub put-token-spec : {M : Type 1} → statement M
 put-token-spec =
@@ -90,5 +99,8 @@ put-token-spec =
     add-table-5
     mul-table-6
     slice-write-table-6
+    add-table-6
+    mul-table-7
+    slice-write-table-7
     same-length
     returns)

@@ -1,3 +1,5 @@
+pub mod Runs
 pub mod Turn
 pub mod Unique
 pub mod Where
+pub mod Behind

@@ -4,12 +4,13 @@ use mathlib.Core.Bool.{Bool, true, false}
 use mathlib.Core.List.{List, [], _∷_}
 use Prim.Native.Nat.{ℕ, zero, suc, _+_, _-_, _<_, _≤_}
 use native.Mathlib.Omega.{arith}
-use lib.Dec.{T}
+use lib.Dec.{T, ltb}
 use lib.ListN.{length, take, drop, getD, length-drop}
 use lib.Seq.{drop-drop, getD-drop, length-take-le}
+use Rattle.list.specs.Pick.{pick}
 use Rattle.code.specs.declared.Code.{Code}
 use Rattle.digits.specs.Digits.{isDelim}
-use Rattle.token.specs.Table.{places, over}
+use Rattle.token.specs.Table.{noSegment, withSegment, places, over}
 use Rattle.token.specs.declared.Token.{Token}
 use Rattle.value.specs.declared.Mode.{Mode}
 use Rattle.segment.proofs.Within.{Each, Clear}
@@ -19,10 +20,11 @@ use Rattle.step.specs.Step.{start, stepFrom, stepAt}
 use Rattle.step.specs.Ways.{Closes}
 use Rattle.step.proofs.Ends.{closes}
 use Rattle.step.proofs.Faults as step
-use Rattle.step.proofs.Faults.{Lying, lying, nothing-before, put-take}
+use Rattle.step.proofs.Faults.{Lying, lying, at-begin, nothing-before, put-take}
 use Rattle.decode.specs.declared.Decoded.{Decoded}
-use Rattle.decode.specs.Mapping.{Out, stopped, tokenThen, full, placed, run, decoded, answer}
+use Rattle.decode.specs.Mapping.{Out, stopped, tokenThen, stepThen, run, decoded, answer}
 use Rattle.decode.specs.Where.{Begins, Fault, Located}
+use Rattle.decode.proofs.Runs.{run-done}
 
 yes-no : {A : Type 0} → true ≡ false → A
 yes-no e = absurd (subst T e tt)
@@ -34,17 +36,17 @@ each-one t (suc k) [] h i q = absurd h
 each-one t (suc k) (b ∷ bs) h zero q = h .0
 each-one t (suc k) (b ∷ bs) h (suc i) q = each-one t k bs (h .1) i (omega arith)
 
-clear-long : (k : ℕ) (l : List ℕ) → Clear k l → k ≤ length l
+pub clear-long : (k : ℕ) (l : List ℕ) → Clear k l → k ≤ length l
 clear-long zero l h = omega arith
 clear-long (suc k) [] h = absurd h
 clear-long (suc k) (b ∷ bs) h = omega (arith, clear-long k bs (h .1))
 
 -- the beginning of a part is a part of the beginning
-take-nothing : (k : ℕ) → [] ≡ take {A = ℕ} k []
+pub take-nothing : (k : ℕ) → [] ≡ take {A = ℕ} k []
 take-nothing zero = refl
 take-nothing (suc k) = refl
 
-drop-take : (at n : ℕ) (l : List ℕ) → drop at (take n l) ≡ take (n - at) (drop at l)
+pub drop-take : (at n : ℕ) (l : List ℕ) → drop at (take n l) ≡ take (n - at) (drop at l)
 drop-take zero n l = let e : n - 0 ≡ n = omega arith in rw e
 drop-take (suc at) zero [] = take-nothing (0 - suc at)
 drop-take (suc at) (suc n) [] = take-nothing (suc n - suc at)
@@ -53,7 +55,7 @@ drop-take (suc at) (suc n) (b ∷ bs) = let e : suc n - suc at ≡ n - at = omeg
 
 module _ (mode : Mode) (sources names : ℕ) (text : List ℕ) where
   -- a state that a decode passes: it is at the start, or a segment ends there
-  abbrev Passed : State → Type 0
+  abbrev pub Passed : State → Type 0
   Passed s = 0 < s .at → Closes text s
 
   -- ---- a fault of the bytes at the state's place, in the whole text
@@ -79,13 +81,13 @@ module _ (mode : Mode) (sources names : ℕ) (text : List ℕ) where
             let g : getD (drop (s .at) text) j 0 ≡ getD text k 0 = getD-drop (s .at) text j 0 ∙ ap (λ (m : ℕ). getD text m 0) n in
             rw (← g) (each-one true (suc j) (drop (s .at) text) d j (omega arith))
 
-    segment : Begins text begin
+    pub segment : Begins text begin
     segment = record { within = begins-here .0; opens = begins-here .1; behind = delim-before }
 
-    past : s .at ≤ begin
+    pub past : s .at ≤ begin
     past = omega (arith, f .begin-is)
 
-    clear-here : Clear (offset - begin) (drop begin text)
+    pub clear-here : Clear (offset - begin) (drop begin text)
     clear-here = rw there at (f .clear)
 
     to : offset ≤ length text
@@ -97,31 +99,36 @@ module _ (mode : Mode) (sources names : ℕ) (text : List ℕ) where
         rw (← g) (each-one false (offset - begin) (drop begin text) clear-here (k - begin) (omega arith))
 
     -- before it only delimiters are left
-    nothing : stepAt mode sources names (take begin text) s ≡ Step.Done
+    pub nothing : stepAt mode sources names (take begin text) s ≡ Step.Done
     nothing =
         let n : begin - s .at ≡ f .skip = omega (arith, f .begin-is) in
         ap (stepFrom mode sources names s) (drop-take (s .at) begin text ∙ ap (λ (k : ℕ). take k (drop (s .at) text)) n)
         ∙ nothing-before mode sources names (f .skip) s (drop (s .at) text) (f .delims)
 
+  -- ---- a step of the text, in the beginning of it
+  module _ (s : State) (t : Token) (b : ℕ) (s′ : State) (e : stepAt mode sources names text s ≡ Step.Put t b s′) (cut : ℕ) (l : s′ .at ≤ cut) where
+    pub put-cut : (s .at < s′ .at) × (stepAt mode sources names (take cut text) s ≡ Step.Put t b s′)
+    put-cut =
+        let v = put-take mode sources names (cut - s .at) s (drop (s .at) text) t b s′ e (omega arith) in
+        (v .0, ap (stepFrom mode sources names s) (drop-take (s .at) cut text) ∙ v .1)
+
+  pub ends-there : (index left cut : ℕ) (s : State) → cut ≤ length text → stepAt mode sources names (take cut text) s ≡ Step.Done
+      → run mode sources names (take cut text) index left s ≡ stopped Code.Done cut
+  ends-there index left cut s h e = run-done mode sources names (take cut text) index left s e ∙ ap (stopped Code.Done) (length-take-le cut text h)
+
   -- ---- the whole decode
-  pub record Found (left : ℕ) (s : State) (o : Out) : Type 0 where
+  pub record Found (index left : ℕ) (s : State) (o : Out) : Type 0 where
     pub begin : ℕ
     pub segment : Begins text begin
     pub past : s .at ≤ begin
     pub from : begin ≤ o .offset
     pub to : o .offset ≤ length text
     pub inside : (k : ℕ) → begin ≤ k → k < o .offset → isDelim (getD text k 0) ≡ false
-    pub kept : run mode sources names (take begin text) left s ≡ record { tokens = o .tokens; code = Code.Done; offset = begin }
+    pub kept : run mode sources names (take begin text) index left s ≡ record { tokens = o .tokens; code = Code.Done; offset = begin }
 
-  ends-there : (left begin : ℕ) (s : State) → begin < length text → stepAt mode sources names (take begin text) s ≡ Step.Done
-      → run mode sources names (take begin text) left s ≡ stopped Code.Done begin
-  unfolding run
-  ends-there zero begin s h e = rw (e, length-take-le begin text (omega arith))
-  ends-there (suc left) begin s h e = rw (e, length-take-le begin text (omega arith))
-
-  found-here : (left : ℕ) (s : State) → Passed s → (code : Code) (begin offset : ℕ) → step.Fault (s .at) (drop (s .at) text) begin offset
-      → Found left s (stopped code offset)
-  found-here left s p code begin offset f =
+  found-here : (index left : ℕ) (s : State) → Passed s → (code : Code) (begin offset : ℕ) → step.Fault (s .at) (drop (s .at) text) begin offset
+      → Found index left s (stopped code offset)
+  found-here index left s p code begin offset f =
       record {
         begin = begin;
         segment = segment s p begin offset f;
@@ -129,51 +136,75 @@ module _ (mode : Mode) (sources names : ℕ) (text : List ℕ) where
         from = f .from;
         to = to s p begin offset f;
         inside = inside s p begin offset f;
-        kept = ends-there left begin s (segment s p begin offset f .within) (nothing s p begin offset f);
+        kept = ends-there index left begin s (omega (arith, segment s p begin offset f .within)) (nothing s p begin offset f);
       }
 
-  found-later : (left : ℕ) (s : State) (t : Token) (b : ℕ) (s′ : State) (o : Out) → stepAt mode sources names text s ≡ Step.Put t b s′
-      → Found left s′ o → Found (suc left) s (tokenThen t o)
-  unfolding run
-  found-later left s t b s′ o e f =
-      let w = put-take mode sources names (f .begin - s .at) s (drop (s .at) text) t b s′ e in
-      let v = w (omega (arith, f .past)) in
-      let q : stepAt mode sources names (take (f .begin) text) s ≡ Step.Put t b s′ = ap (stepFrom mode sources names s) (drop-take (s .at) (f .begin) text) ∙ v .1 in
+  -- a token for which there is no place, or whose segment begins too late
+  found-begin : (index left : ℕ) (s : State) → Passed s → (code : Code) (begin end : ℕ) → step.Fault (s .at) (drop (s .at) text) begin end
+      → Found index left s (stopped code begin)
+  found-begin index left s p code begin end f = found-here index left s p code begin begin (at-begin (s .at) (drop (s .at) text) begin end f)
+
+  found-later : (index left : ℕ) (s : State) (t : Token) (b : ℕ) (s′ : State) (o : Out) → stepAt mode sources names text s ≡ Step.Put t b s′
+      → ltb b noSegment ≡ true → Found (index + 1) left s′ o → Found index (suc left) s (tokenThen (withSegment t b) o)
+  unfolding run stepThen
+  found-later index left s t b s′ o e l f =
+      let q = put-cut s t b s′ e (f .begin) (f .past) in
       record {
         begin = f .begin;
         segment = f .segment;
-        past = omega (arith, v .0, f .past);
+        past = omega (arith, q .0, f .past);
         from = f .from;
         to = f .to;
         inside = f .inside;
-        kept = rw (q, f .kept);
+        kept = rw (q .1, l, f .kept);
       }
 
-  found : (left : ℕ) (s : State) → Passed s → (run mode sources names text left s .code ≡ Code.Done → ⊥) → Found left s (run mode sources names text left s)
-  unfolding run
-  found zero s p n = by (stepAt mode sources names text s) (lying mode sources names s (drop (s .at) text)) n
+  abbrev Finds : ℕ → ℕ → Type 0
+  Finds index left =
+      (s : State) → Passed s → (run mode sources names text index left s .code ≡ Code.Done → ⊥)
+      → Found index left s (run mode sources names text index left s)
+
+  found : (index left : ℕ) → Finds index left
+  unfolding run stepThen
+  found index zero s p n = by (stepAt mode sources names text s) (lying mode sources names s (drop (s .at) text)) n
     where
-      by : (r : Step) → Lying mode sources names s (drop (s .at) text) r → (full (length text) r .code ≡ Code.Done → ⊥) → Found zero s (full (length text) r)
-      by (Step.Put t begin s′) f n = found-here zero s p Code.TableFull begin begin f
-      by (Step.Refuse code offset) f n = found-here zero s p code (f .0) offset (f .1)
+      put : (begin end : ℕ) → step.Fault (s .at) (drop (s .at) text) begin end → (x : Bool)
+          → Found index zero s (pick x (stopped Code.TableFull begin) (stopped (Code.TooBig index) begin))
+      put begin end f true = found-begin index zero s p Code.TableFull begin end f
+      put begin end f false = found-begin index zero s p (Code.TooBig index) begin end f
+
+      by : (r : Step) → Lying mode sources names s (drop (s .at) text) r
+          → (stepThen index (length text) r (λ t q. stopped Code.TableFull (t .segment)) .code ≡ Code.Done → ⊥)
+          → Found index zero s (stepThen index (length text) r (λ t q. stopped Code.TableFull (t .segment)))
+      by (Step.Put t begin s′) f n = put begin (s′ .at) f (ltb begin noSegment)
+      by (Step.Refuse code offset) f n = found-here index zero s p code (f .0) offset (f .1)
       by Step.Done f n = absurd (n refl)
-  found (suc left) s p n =
-      by (stepAt mode sources names text s) refl (lying mode sources names s (drop (s .at) text)) n (found left)
+  found index (suc left) s p n =
+      by (stepAt mode sources names text s) refl (lying mode sources names s (drop (s .at) text)) n (found (index + 1) left)
     where
+      put : (t : Token) (begin : ℕ) (s′ : State) → stepAt mode sources names text s ≡ Step.Put t begin s′ → step.Fault (s .at) (drop (s .at) text) begin (s′ .at)
+          → (x : Bool) → ltb begin noSegment ≡ x
+          → (pick x (tokenThen (withSegment t begin) (run mode sources names text (index + 1) left s′)) (stopped (Code.TooBig index) begin) .code ≡ Code.Done → ⊥)
+          → Finds (index + 1) left
+          → Found index (suc left) s (pick x (tokenThen (withSegment t begin) (run mode sources names text (index + 1) left s′)) (stopped (Code.TooBig index) begin))
+      put t begin s′ e f true l n ih =
+          found-later index left s t begin s′ (run mode sources names text (index + 1) left s′) e l
+          (ih s′ (λ _. closes mode sources names text s t begin s′ (sym e)) n)
+      put t begin s′ e f false l n ih = found-begin index (suc left) s p (Code.TooBig index) begin (s′ .at) f
+
       by : (r : Step) → stepAt mode sources names text s ≡ r → Lying mode sources names s (drop (s .at) text) r
-          → (placed (length text) r (run mode sources names text left) .code ≡ Code.Done → ⊥)
-          → ((s′ : State) → Passed s′ → (run mode sources names text left s′ .code ≡ Code.Done → ⊥) → Found left s′ (run mode sources names text left s′))
-          → Found (suc left) s (placed (length text) r (run mode sources names text left))
-      by (Step.Put t begin s′) e f n ih =
-          found-later left s t begin s′ (run mode sources names text left s′) e (ih s′ (λ _. closes mode sources names text s t begin s′ (sym e)) n)
-      by (Step.Refuse code offset) e f n ih = found-here (suc left) s p code (f .0) offset (f .1)
+          → (stepThen index (length text) r (λ t q. tokenThen t (run mode sources names text (index + 1) left q)) .code ≡ Code.Done → ⊥)
+          → Finds (index + 1) left
+          → Found index (suc left) s (stepThen index (length text) r (λ t q. tokenThen t (run mode sources names text (index + 1) left q)))
+      by (Step.Put t begin s′) e f n ih = put t begin s′ e f (ltb begin noSegment) refl n ih
+      by (Step.Refuse code offset) e f n ih = found-here index (suc left) s p code (f .0) offset (f .1)
       by Step.Done e f n ih = absurd (n refl)
 
 pub located : Located
 located mode sources names text table r table′ d n =
     let o : Out = decoded mode sources names text (places (length table)) in
-    let f : Found mode sources names text (places (length table)) start o =
-    found mode sources names text (places (length table)) start (λ h. absurd (omega arith)) (λ e. n (rw (d .says) e)) in
+    let f : Found mode sources names text 0 (places (length table)) start o =
+    found mode sources names text 0 (places (length table)) start (λ h. absurd (omega arith)) (λ e. n (rw (d .says) e)) in
     record {
       begin = f .begin;
       segment = f .segment;

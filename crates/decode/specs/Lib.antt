@@ -1,2 +1,3 @@
 pub mod Mapping
 pub mod Where
+pub mod Behind

@@ -27,7 +27,8 @@ use Rattle.step.specs.Step.{commaed, lined, offsetOf, stepped, segmentSt
 zero-one : {A : Type 0} → _≡_ {A = ℕ} 0 1 → A
 zero-one z = absurd (omega arith)
 
--- of the bytes that stand at a place: behind `skip` delimiters a segment begins, and no delimiter stands between its beginning and the offset
+-- of the bytes that stand at a place: behind `skip` delimiters a segment begins, and no delimiter stands between its beginning and the offset,
+-- which of a token is where its segment ends
 pub record Fault (at : ℕ) (bs : List ℕ) (begin offset : ℕ) : Type 0 where
   pub skip : ℕ
   pub begin-is : begin ≡ at + skip
@@ -35,6 +36,12 @@ pub record Fault (at : ℕ) (bs : List ℕ) (begin offset : ℕ) : Type 0 where
   pub opens : Clear 1 (drop skip bs)
   pub from : begin ≤ offset
   pub clear : Clear (offset - begin) (drop skip bs)
+
+-- the same of the beginning
+pub at-begin : (at : ℕ) (bs : List ℕ) (begin offset : ℕ) → Fault at bs begin offset → Fault at bs begin begin
+at-begin at bs begin offset f =
+    let n : begin - begin ≡ 0 = omega arith in
+    record { skip = f .skip; begin-is = f .begin-is; delims = f .delims; opens = f .opens; from = omega arith; clear = rw n tt }
 
 -- ---- a field's place
 field-between : (at next : ℕ) (fs : List Field) (field : ℕ) → at ≤ next → Between at next fs → (at ≤ getD (starts fs) field at) × (getD (starts fs) field at ≤ next)
@@ -55,7 +62,7 @@ yes-no e = absurd (subst T e tt)
 module _ (mode : Mode) (sources names : ℕ) where
   -- ---- where it lies
   abbrev pub Lying : State → List ℕ → Step → Type 0
-  Lying s bs (Step.Put t begin s′) = Fault (s .at) bs begin begin
+  Lying s bs (Step.Put t begin s′) = Fault (s .at) bs begin (s′ .at)
   Lying s bs (Step.Refuse code offset) = (begin : ℕ) × Fault (s .at) bs begin offset
   Lying s bs Step.Done = Unit {0}
 
@@ -64,15 +71,12 @@ module _ (mode : Mode) (sources names : ℕ) where
       record { skip = suc (f .skip); begin-is = omega (arith, f .begin-is); delims = (d, f .delims); opens = f .opens; from = f .from; clear = f .clear }
 
   later : (s s₁ : State) (b : ℕ) (bs : List ℕ) (r : Step) → s₁ .at ≡ s .at + 1 → isDelim b ≡ true → Lying s₁ bs r → Lying s (b ∷ bs) r
-  later s s₁ b bs (Step.Put t begin s′) e d h = fault-later (s .at) b bs begin begin d (rw (← e) h)
+  later s s₁ b bs (Step.Put t begin s′) e d h = fault-later (s .at) b bs begin (s′ .at) d (rw (← e) h)
   later s s₁ b bs (Step.Refuse code offset) e d h = (h .0, fault-later (s .at) b bs (h .0) offset d (rw (← e) (h .1)))
   later s s₁ b bs Step.Done e d h = tt
 
   here : (at b : ℕ) (bs : List ℕ) (offset : ℕ) → isDelim b ≡ false → at ≤ offset → Clear (offset - at) (b ∷ bs) → Fault at (b ∷ bs) at offset
   here at b bs offset d l h = record { skip = 0; begin-is = omega arith; delims = tt; opens = (d, tt); from = l; clear = h }
-
-  at-start : (at b : ℕ) (bs : List ℕ) → isDelim b ≡ false → Fault at (b ∷ bs) at at
-  at-start at b bs d = let n : at - at ≡ 0 = omega arith in here at b bs at d (omega arith) (rw n tt)
 
   segment-lies : (s : State) (b : ℕ) (bs : List ℕ) → isDelim b ≡ false → (f : Fields) → Lies (s .at) (b ∷ bs) f → Lying s (b ∷ bs) (segmentStep mode sources names s f)
   unfolding segmentStep offsetOf
@@ -80,10 +84,11 @@ module _ (mode : Mode) (sources names : ℕ) where
   segment-lies s b bs d (overflow place) h = (s .at, here (s .at) b bs place d (h .0) (h .1))
   segment-lies s b bs d (whole fs next) h =
       by (applied mode sources names s (segmentOf (whole fs next))) (points mode sources names (segmentOf (whole fs next)) (λ l. omega (arith, wide-has fs 0 l)) s)
+      (lands mode sources names (segmentOf (whole fs next)) s)
     where
-      by : (a : Applied) → Points (length fs) a → Lying s (b ∷ bs) (stepped (s .at) (starts fs) a)
-      by (Applied.Took t s′) p = at-start (s .at) b bs d
-      by (Applied.Refused code about) p =
+      by : (a : Applied) → Points (length fs) a → Lands next a → Lying s (b ∷ bs) (stepped (s .at) (starts fs) a)
+      by (Applied.Took t s′) p l = rw l (here (s .at) b bs next d (h .0) (h .1 .0))
+      by (Applied.Refused code about) p l =
           let w = place-between (s .at) next (length fs) fs about (h .0) (h .1 .1) p in
           (s .at, here (s .at) b bs (offsetOf (s .at) (starts fs) about) d (w .0) (fewer-clear (offsetOf (s .at) (starts fs) about - s .at) (next - s .at) (b ∷ bs) (omega (arith, w .0, w .1)) (h .1 .0)))
 

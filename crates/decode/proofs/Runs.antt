@@ -1,0 +1,59 @@
+-- A run, by what its step is; and where a step that gives a token lies. Assumes nothing.
+use mathlib.Core.Path.{_≡_, ap, subst}
+use mathlib.Core.List.{List}
+use Prim.Native.Nat.{ℕ, zero, suc, _+_, _≤_, _<_}
+use native.Mathlib.Omega.{arith}
+use lib.ListN.{length, drop}
+use borrow.Author.Tests.{lt-ltb, le-ltb}
+use Rattle.code.specs.declared.Code.{Code}
+use Rattle.token.specs.Table.{noSegment, withSegment}
+use Rattle.token.specs.declared.Token.{Token}
+use Rattle.value.specs.declared.Mode.{Mode}
+use Rattle.apply.specs.declared.State.{State}
+use Rattle.step.specs.Step.{stepAt}
+use Rattle.step.specs.declared.Step.{Step}
+use Rattle.step.proofs.Faults.{Lying, lying, put-take}
+use Rattle.decode.specs.Mapping.{Out, stopped, tokenThen, stepThen, run}
+
+module _ (mode : Mode) (sources names : ℕ) (text : List ℕ) where
+  abbrev runs : ℕ → ℕ → State → Out
+  runs index left s = run mode sources names text index left s
+
+  abbrev steps : State → Step
+  steps s = stepAt mode sources names text s
+
+  pub run-done : (index left : ℕ) (s : State) → steps s ≡ Step.Done → runs index left s ≡ stopped Code.Done (length text)
+  unfolding run stepThen
+  run-done index zero s e = rw e
+  run-done index (suc left) s e = rw e
+
+  pub run-refused : (index left : ℕ) (s : State) (code : Code) (offset : ℕ) → steps s ≡ Step.Refuse code offset → runs index left s ≡ stopped code offset
+  unfolding run stepThen
+  run-refused index zero s code offset e = rw e
+  run-refused index (suc left) s code offset e = rw e
+
+  module _ (index : ℕ) (s : State) (t : Token) (begin : ℕ) (s′ : State) (e : steps s ≡ Step.Put t begin s′) where
+    pub run-late : (left : ℕ) → noSegment ≤ begin → runs index left s ≡ stopped (Code.TooBig index) begin
+    unfolding run stepThen
+    run-late zero l = rw (e, le-ltb begin noSegment l)
+    run-late (suc left) l = rw (e, le-ltb begin noSegment l)
+
+    pub run-full : begin < noSegment → runs index 0 s ≡ stopped Code.TableFull begin
+    unfolding run stepThen
+    run-full l = rw (e, lt-ltb begin noSegment l)
+
+    pub run-put : (left : ℕ) → begin < noSegment → runs index (suc left) s ≡ tokenThen (withSegment t begin) (runs (index + 1) left s′)
+    unfolding run stepThen
+    run-put left l = rw (e, lt-ltb begin noSegment l)
+
+    -- its segment begins there or later, and ends later
+    pub put-past : (s .at ≤ begin) × (s .at < s′ .at)
+    put-past =
+        let f : Lying mode sources names s (drop (s .at) text) (Step.Put t begin s′) = subst (Lying mode sources names s (drop (s .at) text)) e (lying mode sources names s (drop (s .at) text)) in
+        (omega (arith, f .begin-is), put-take mode sources names (s′ .at) s (drop (s .at) text) t begin s′ e (omega arith) .0)
+
+  -- only the step tells states apart
+  pub run-same : (index left : ℕ) (s s′ : State) → steps s ≡ steps s′ → runs index left s ≡ runs index left s′
+  unfolding run
+  run-same index zero s s′ e = ap (λ (r : Step). stepThen index (length text) r λ t q. stopped Code.TableFull (t .segment)) e
+  run-same index (suc left) s s′ e = ap (λ (r : Step). stepThen index (length text) r λ t q. tokenThen t (run mode sources names text (index + 1) left q)) e

@@ -1,13 +1,11 @@
 -- The bytes at a token's seventh number, up to the next delimiter or the end, gave the token. Assumes nothing.
-use mathlib.Core.Path.{_≡_, refl, sym, _∙_, ap, ap₂, subst}
+use mathlib.Core.Path.{_≡_, refl, sym, _∙_, ap, subst}
 use mathlib.Core.Bool.{Bool, true, false}
 use mathlib.Core.List.{List, [], _∷_, _++_}
 use Prim.Native.Nat.{ℕ, zero, suc, _+_, _-_, _<_, _≤_}
 use native.Mathlib.Omega.{arith}
-use lib.Dec.{ltb}
-use lib.ListN.{length, take, drop, getD, length-drop, drop-of-length-le}
+use lib.ListN.{length, take, drop, getD, length-drop}
 use lib.Seq.{drop-cons, drop-drop}
-use borrow.Author.Tests.{ltb-true}
 use Rattle.list.specs.Pick.{pick}
 use Rattle.list.specs.Memory.{onto}
 use Rattle.code.specs.declared.Code.{Code}
@@ -21,16 +19,14 @@ use Rattle.segment.proofs.Within.{Clear}
 use Rattle.apply.specs.declared.State.{State}
 use Rattle.step.specs.declared.Step.{Step}
 use Rattle.step.specs.Step.{start, stepFrom, stepAt}
-use Rattle.step.specs.Ways.{Closes}
 use Rattle.step.proofs.Ends.{closes}
 use Rattle.step.proofs.Faults as step
-use Rattle.step.proofs.Faults.{Lying, lying}
 use Rattle.decode.specs.declared.Decoded.{Decoded}
-use Rattle.decode.specs.Mapping.{Out, stopped, tokenThen, stepThen, run, decoded, answer, Decodes}
+use Rattle.decode.specs.Mapping.{Out, tokenThen, run, decoded, answer, Decodes}
 use Rattle.decode.specs.Where.{Begins}
 use Rattle.decode.specs.Behind.{piece, done, Gave, SegmentBehind}
-use Rattle.decode.proofs.Runs.{run-put}
-use Rattle.decode.proofs.Where.{take-nothing, drop-take, clear-long, Passed, segment, past, clear-here, nothing, put-cut, ends-there}
+use Rattle.decode.proofs.Runs.{run-put, run-by}
+use Rattle.decode.proofs.Where.{take-nothing, drop-take, clear-long, Passed, segment, past, clear-here, nothing, put-cut, ends-there, lies-put}
 
 -- ---- the piece at a place
 -- without a delimiter up to a border
@@ -73,7 +69,7 @@ module _ (mode : Mode) (sources names : ℕ) (text : List ℕ) where
   module _ (s : State) (p : Passed mode sources names text s) (t : Token) (begin : ℕ) (s′ : State)
       (e : stepAt mode sources names text s ≡ Step.Put t begin s′) where
     lies : step.Fault (s .at) (drop (s .at) text) begin (s′ .at)
-    lies = subst (Lying mode sources names s (drop (s .at) text)) e (lying mode sources names s (drop (s .at) text))
+    lies = lies-put mode sources names text s t begin s′ e
 
     within : s′ .at ≤ length text
     within =
@@ -138,54 +134,33 @@ module _ (mode : Mode) (sources names : ℕ) (text : List ℕ) where
       }
 
   -- any
-  abbrev Gets : ℕ → ℕ → Type 0
-  Gets index left =
-      (s : State) → Passed mode sources names text s → (before : List Token) (t : Token) (rest : List Token)
-      → run mode sources names text index left s .tokens ≡ before ++ (t ∷ rest) → Got index left s before t
+  abbrev Gets : ℕ → ℕ → State → Out → Type 0
+  Gets index left s o =
+      Passed mode sources names text s → (before : List Token) (t : Token) (rest : List Token) → o .tokens ≡ before ++ (t ∷ rest) → Got index left s before t
 
-  empty : {A : Type 0} (before : List Token) (t : Token) (rest : List Token) → [] ≡ before ++ (t ∷ rest) → A
-  empty [] t rest e = let z : _≡_ {A = ℕ} 0 1 = cc in absurd (omega arith)
-  empty (u ∷ before) t rest e = let z : _≡_ {A = ℕ} 0 1 = cc in absurd (omega arith)
+  none : {A : Type 0} (before : List Token) (t : Token) (rest : List Token) → [] ≡ before ++ (t ∷ rest) → A
+  none [] t rest e = let z : _≡_ {A = ℕ} 0 1 = cc in absurd (omega arith)
+  none (u ∷ before) t rest e = let z : _≡_ {A = ℕ} 0 1 = cc in absurd (omega arith)
 
-  pub got : (index left : ℕ) → Gets index left
-  unfolding run stepThen
-  got index zero s p before t rest e = by (stepAt mode sources names text s) e
-    where
-      none : (x : Bool) (a b : Out) → a .tokens ≡ [] → b .tokens ≡ [] → pick x a b .tokens ≡ before ++ (t ∷ rest) → Got index zero s before t
-      none true a b ea eb q = empty before t rest (sym ea ∙ q)
-      none false a b ea eb q = empty before t rest (sym eb ∙ q)
+  got-put : (index left : ℕ) (s : State) (u : Token) (begin : ℕ) (s′ : State) (o : Out) → stepAt mode sources names text s ≡ Step.Put u begin s′
+      → begin < noSegment → Gets (index + 1) left s′ o → Gets index (suc left) s (tokenThen (withSegment u begin) o)
+  got-put index left s u begin s′ o e l h p [] t rest q =
+      let x : withSegment u begin ≡ t = cc in
+      subst (Got index (suc left) s []) x (got-here index left s p u begin s′ e l)
+  got-put index left s u begin s′ o e l h p (v ∷ before) t rest q =
+      let x : withSegment u begin ≡ v = cc in
+      let y : o .tokens ≡ before ++ (t ∷ rest) = cc in
+      subst (λ (z : Token). Got index (suc left) s (z ∷ before) t) x
+      (got-later index left s u begin s′ e l before t (h (λ _. closes mode sources names text s u begin s′ (sym e)) before t rest y))
 
-      by : (r : Step) → stepThen index (length text) r (λ u q. stopped Code.TableFull (u .segment)) .tokens ≡ before ++ (t ∷ rest) → Got index zero s before t
-      by (Step.Put u begin s′) q = none (ltb begin noSegment) (stopped Code.TableFull begin) (stopped (Code.TooBig index) begin) refl refl q
-      by (Step.Refuse code offset) q = empty before t rest q
-      by Step.Done q = empty before t rest q
-  got index (suc left) s p before t rest e = by (stepAt mode sources names text s) refl e (got (index + 1) left)
-    where
-      split : (u : Token) (begin : ℕ) (s′ : State) → stepAt mode sources names text s ≡ Step.Put u begin s′ → begin < noSegment → (us before : List Token)
-          → withSegment u begin ∷ us ≡ before ++ (t ∷ rest)
-          → ((b : List Token) → us ≡ b ++ (t ∷ rest) → Got (index + 1) left s′ b t) → Got index (suc left) s before t
-      split u begin s′ w l us [] q ih =
-          let x : withSegment u begin ≡ t = cc in
-          subst (Got index (suc left) s []) x (got-here index left s p u begin s′ w l)
-      split u begin s′ w l us (v ∷ b) q ih =
-          let x : withSegment u begin ≡ v = cc in
-          let y : us ≡ b ++ (t ∷ rest) = cc in
-          subst (λ (z : Token). Got index (suc left) s (z ∷ b) t) x (got-later index left s u begin s′ w l b t (ih b y))
-
-      put : (u : Token) (begin : ℕ) (s′ : State) → stepAt mode sources names text s ≡ Step.Put u begin s′ → (x : Bool) → ltb begin noSegment ≡ x
-          → pick x (tokenThen (withSegment u begin) (run mode sources names text (index + 1) left s′)) (stopped (Code.TooBig index) begin) .tokens ≡ before ++ (t ∷ rest)
-          → Gets (index + 1) left → Got index (suc left) s before t
-      put u begin s′ w true l q ih =
-          split u begin s′ w (ltb-true begin noSegment l) (run mode sources names text (index + 1) left s′ .tokens) before q
-          (λ b y. ih s′ (λ _. closes mode sources names text s u begin s′ (sym w)) b t rest y)
-      put u begin s′ w false l q ih = empty before t rest q
-
-      by : (r : Step) → stepAt mode sources names text s ≡ r
-          → stepThen index (length text) r (λ u q. tokenThen u (run mode sources names text (index + 1) left q)) .tokens ≡ before ++ (t ∷ rest)
-          → Gets (index + 1) left → Got index (suc left) s before t
-      by (Step.Put u begin s′) w q ih = put u begin s′ w (ltb begin noSegment) refl q ih
-      by (Step.Refuse code offset) w q ih = empty before t rest q
-      by Step.Done w q ih = empty before t rest q
+  got : (index left : ℕ) (s : State) → Gets index left s (run mode sources names text index left s)
+  got =
+      run-by mode sources names text Gets
+      (λ index left s e p before t₁ rest q. none before t₁ rest q)
+      (λ index left s code offset e p before t₁ rest q. none before t₁ rest q)
+      (λ index left s t begin s′ e l p before t₁ rest q. none before t₁ rest q)
+      (λ index s t begin s′ e l p before t₁ rest q. none before t₁ rest q)
+      got-put
 
 -- ---- the table
 one : (xs : List ℕ) (i : ℕ) → tokensFrom xs 0 i ++ (tokenAt xs i ∷ []) ≡ tokensFrom xs 0 (i + 1)

@@ -1,10 +1,12 @@
 -- A run, by what its step is; and where a step that gives a token lies. Assumes nothing.
-use mathlib.Core.Path.{_≡_, ap, subst}
+use mathlib.Core.Path.{_≡_, refl, sym, ap, subst}
+use mathlib.Core.Bool.{Bool, true, false}
 use mathlib.Core.List.{List}
 use Prim.Native.Nat.{ℕ, zero, suc, _+_, _≤_, _<_}
 use native.Mathlib.Omega.{arith}
+use lib.Dec.{ltb}
 use lib.ListN.{length, drop}
-use borrow.Author.Tests.{lt-ltb, le-ltb}
+use borrow.Author.Tests.{lt-ltb, le-ltb, ltb-true, ltb-false}
 use Rattle.code.specs.declared.Code.{Code}
 use Rattle.token.specs.Table.{noSegment, withSegment}
 use Rattle.token.specs.declared.Token.{Token}
@@ -57,3 +59,35 @@ module _ (mode : Mode) (sources names : ℕ) (text : List ℕ) where
   unfolding run
   run-same index zero s s′ e = ap (λ (r : Step). stepThen index (length text) r λ t q. stopped Code.TableFull (t .segment)) e
   run-same index (suc left) s s′ e = ap (λ (r : Step). stepThen index (length text) r λ t q. tokenThen t (run mode sources names text (index + 1) left q)) e
+
+  -- what each way of a step hands on holds of every run
+  module _ (P : ℕ → ℕ → State → Out → Type 0)
+      (done : (index left : ℕ) (s : State) → steps s ≡ Step.Done → P index left s (stopped Code.Done (length text)))
+      (refused : (index left : ℕ) (s : State) (code : Code) (offset : ℕ) → steps s ≡ Step.Refuse code offset → P index left s (stopped code offset))
+      (late : (index left : ℕ) (s : State) (t : Token) (begin : ℕ) (s′ : State) → steps s ≡ Step.Put t begin s′ → noSegment ≤ begin
+      → P index left s (stopped (Code.TooBig index) begin))
+      (full : (index : ℕ) (s : State) (t : Token) (begin : ℕ) (s′ : State) → steps s ≡ Step.Put t begin s′ → begin < noSegment
+      → P index 0 s (stopped Code.TableFull begin))
+      (put : (index left : ℕ) (s : State) (t : Token) (begin : ℕ) (s′ : State) (o : Out) → steps s ≡ Step.Put t begin s′ → begin < noSegment
+      → P (index + 1) left s′ o → P index (suc left) s (tokenThen (withSegment t begin) o)) where
+    stops : (index left : ℕ) (s : State) → ((t : Token) (begin : ℕ) (s′ : State) → steps s ≡ Step.Put t begin s′ → begin < noSegment → P index left s (runs index left s))
+        → P index left s (runs index left s)
+    stops index left s early = by (steps s) refl
+      where
+        when : (t : Token) (begin : ℕ) (s′ : State) → steps s ≡ Step.Put t begin s′ → (x : Bool) → ltb begin noSegment ≡ x → P index left s (runs index left s)
+        when t begin s′ e true l = early t begin s′ e (ltb-true begin noSegment l)
+        when t begin s′ e false l =
+            let h = ltb-false begin noSegment l in
+            subst (P index left s) (sym (run-late index s t begin s′ e left h)) (late index left s t begin s′ e h)
+
+        by : (r : Step) → steps s ≡ r → P index left s (runs index left s)
+        by (Step.Put t begin s′) e = when t begin s′ e (ltb begin noSegment) refl
+        by (Step.Refuse code offset) e = subst (P index left s) (sym (run-refused index left s code offset e)) (refused index left s code offset e)
+        by Step.Done e = subst (P index left s) (sym (run-done index left s e)) (done index left s e)
+
+    pub run-by : (index left : ℕ) (s : State) → P index left s (runs index left s)
+    run-by index zero s = stops index zero s λ t begin s′ e l. subst (P index zero s) (sym (run-full index s t begin s′ e l)) (full index s t begin s′ e l)
+    run-by index (suc left) s =
+        let next : (s′ : State) → P (index + 1) left s′ (runs (index + 1) left s′) = run-by (index + 1) left in
+        stops index (suc left) s λ t begin s′ e l.
+        subst (P index (suc left) s) (sym (run-put index s t begin s′ e left l)) (put index left s t begin s′ (runs (index + 1) left s′) e l (next s′))

@@ -4,10 +4,9 @@ use mathlib.Core.Bool.{Bool, true, false}
 use mathlib.Core.List.{List, [], _∷_}
 use Prim.Native.Nat.{ℕ, zero, suc, _+_, _-_, _<_, _≤_}
 use native.Mathlib.Omega.{arith}
-use lib.Dec.{T, ltb}
+use lib.Dec.{T}
 use lib.ListN.{length, take, drop, getD, length-drop}
 use lib.Seq.{drop-drop, getD-drop, length-take-le}
-use Rattle.list.specs.Pick.{pick}
 use Rattle.code.specs.declared.Code.{Code}
 use Rattle.digits.specs.Digits.{isDelim}
 use Rattle.token.specs.Table.{noSegment, withSegment, places, over}
@@ -22,9 +21,9 @@ use Rattle.step.proofs.Ends.{closes}
 use Rattle.step.proofs.Faults as step
 use Rattle.step.proofs.Faults.{Lying, lying, at-begin, nothing-before, put-take}
 use Rattle.decode.specs.declared.Decoded.{Decoded}
-use Rattle.decode.specs.Mapping.{Out, stopped, tokenThen, stepThen, run, decoded, answer}
+use Rattle.decode.specs.Mapping.{Out, stopped, tokenThen, run, decoded, answer}
 use Rattle.decode.specs.Where.{Begins, Fault, Located}
-use Rattle.decode.proofs.Runs.{run-done}
+use Rattle.decode.proofs.Runs.{run-done, run-put, run-by}
 
 yes-no : {A : Type 0} → true ≡ false → A
 yes-no e = absurd (subst T e tt)
@@ -139,14 +138,8 @@ module _ (mode : Mode) (sources names : ℕ) (text : List ℕ) where
         kept = ends-there index left begin s (omega (arith, segment s p begin offset f .within)) (nothing s p begin offset f);
       }
 
-  -- a token for which there is no place, or whose segment begins too late
-  found-begin : (index left : ℕ) (s : State) → Passed s → (code : Code) (begin end : ℕ) → step.Fault (s .at) (drop (s .at) text) begin end
-      → Found index left s (stopped code begin)
-  found-begin index left s p code begin end f = found-here index left s p code begin begin (at-begin (s .at) (drop (s .at) text) begin end f)
-
   found-later : (index left : ℕ) (s : State) (t : Token) (b : ℕ) (s′ : State) (o : Out) → stepAt mode sources names text s ≡ Step.Put t b s′
-      → ltb b noSegment ≡ true → Found (index + 1) left s′ o → Found index (suc left) s (tokenThen (withSegment t b) o)
-  unfolding run stepThen
+      → b < noSegment → Found (index + 1) left s′ o → Found index (suc left) s (tokenThen (withSegment t b) o)
   found-later index left s t b s′ o e l f =
       let q = put-cut s t b s′ e (f .begin) (f .past) in
       record {
@@ -156,49 +149,34 @@ module _ (mode : Mode) (sources names : ℕ) (text : List ℕ) where
         from = f .from;
         to = f .to;
         inside = f .inside;
-        kept = rw (q .1, l, f .kept);
+        kept = run-put mode sources names (take (f .begin) text) index s t b s′ (q .1) left l ∙ ap (tokenThen (withSegment t b)) (f .kept);
       }
 
-  abbrev Finds : ℕ → ℕ → Type 0
-  Finds index left =
-      (s : State) → Passed s → (run mode sources names text index left s .code ≡ Code.Done → ⊥)
-      → Found index left s (run mode sources names text index left s)
+  -- where the step lies
+  lies : (s : State) (r : Step) → stepAt mode sources names text s ≡ r → Lying mode sources names s (drop (s .at) text) r
+  lies s r e = subst (Lying mode sources names s (drop (s .at) text)) e (lying mode sources names s (drop (s .at) text))
 
-  found : (index left : ℕ) → Finds index left
-  unfolding run stepThen
-  found index zero s p n = by (stepAt mode sources names text s) (lying mode sources names s (drop (s .at) text)) n
-    where
-      put : (begin end : ℕ) → step.Fault (s .at) (drop (s .at) text) begin end → (x : Bool)
-          → Found index zero s (pick x (stopped Code.TableFull begin) (stopped (Code.TooBig index) begin))
-      put begin end f true = found-begin index zero s p Code.TableFull begin end f
-      put begin end f false = found-begin index zero s p (Code.TooBig index) begin end f
+  pub lies-put : (s : State) (t : Token) (begin : ℕ) (s′ : State) → stepAt mode sources names text s ≡ Step.Put t begin s′
+      → step.Fault (s .at) (drop (s .at) text) begin (s′ .at)
+  lies-put s t begin s′ e = lies s (Step.Put t begin s′) e
 
-      by : (r : Step) → Lying mode sources names s (drop (s .at) text) r
-          → (stepThen index (length text) r (λ t q. stopped Code.TableFull (t .segment)) .code ≡ Code.Done → ⊥)
-          → Found index zero s (stepThen index (length text) r (λ t q. stopped Code.TableFull (t .segment)))
-      by (Step.Put t begin s′) f n = put begin (s′ .at) f (ltb begin noSegment)
-      by (Step.Refuse code offset) f n = found-here index zero s p code (f .0) offset (f .1)
-      by Step.Done f n = absurd (n refl)
-  found index (suc left) s p n =
-      by (stepAt mode sources names text s) refl (lying mode sources names s (drop (s .at) text)) n (found (index + 1) left)
-    where
-      put : (t : Token) (begin : ℕ) (s′ : State) → stepAt mode sources names text s ≡ Step.Put t begin s′ → step.Fault (s .at) (drop (s .at) text) begin (s′ .at)
-          → (x : Bool) → ltb begin noSegment ≡ x
-          → (pick x (tokenThen (withSegment t begin) (run mode sources names text (index + 1) left s′)) (stopped (Code.TooBig index) begin) .code ≡ Code.Done → ⊥)
-          → Finds (index + 1) left
-          → Found index (suc left) s (pick x (tokenThen (withSegment t begin) (run mode sources names text (index + 1) left s′)) (stopped (Code.TooBig index) begin))
-      put t begin s′ e f true l n ih =
-          found-later index left s t begin s′ (run mode sources names text (index + 1) left s′) e l
-          (ih s′ (λ _. closes mode sources names text s t begin s′ (sym e)) n)
-      put t begin s′ e f false l n ih = found-begin index (suc left) s p (Code.TooBig index) begin (s′ .at) f
+  -- a token for which there is no place, or whose segment begins too late
+  found-begin : (index left : ℕ) (s : State) (code : Code) (t : Token) (begin : ℕ) (s′ : State) → stepAt mode sources names text s ≡ Step.Put t begin s′
+      → Passed s → Found index left s (stopped code begin)
+  found-begin index left s code t begin s′ e p =
+      found-here index left s p code begin begin (at-begin (s .at) (drop (s .at) text) begin (s′ .at) (lies-put s t begin s′ e))
 
-      by : (r : Step) → stepAt mode sources names text s ≡ r → Lying mode sources names s (drop (s .at) text) r
-          → (stepThen index (length text) r (λ t q. tokenThen t (run mode sources names text (index + 1) left q)) .code ≡ Code.Done → ⊥)
-          → Finds (index + 1) left
-          → Found index (suc left) s (stepThen index (length text) r (λ t q. tokenThen t (run mode sources names text (index + 1) left q)))
-      by (Step.Put t begin s′) e f n ih = put t begin s′ e f (ltb begin noSegment) refl n ih
-      by (Step.Refuse code offset) e f n ih = found-here index (suc left) s p code (f .0) offset (f .1)
-      by Step.Done e f n ih = absurd (n refl)
+  abbrev Finds : ℕ → ℕ → State → Out → Type 0
+  Finds index left s o = Passed s → (o .code ≡ Code.Done → ⊥) → Found index left s o
+
+  found : (index left : ℕ) (s : State) → Finds index left s (run mode sources names text index left s)
+  found =
+      run-by mode sources names text Finds
+      (λ index left s e p n. absurd (n refl))
+      (λ index left s code offset e p n. let f = lies s (Step.Refuse code offset) e in found-here index left s p code (f .0) offset (f .1))
+      (λ index left s t begin s′ e l p n. found-begin index left s (Code.TooBig index) t begin s′ e p)
+      (λ index s t begin s′ e l p n. found-begin index 0 s Code.TableFull t begin s′ e p)
+      (λ index left s t begin s′ o e l h p n. found-later index left s t begin s′ o e l (h (λ _. closes mode sources names text s t begin s′ (sym e)) n))
 
 pub located : Located
 located mode sources names text table r table′ d n =

@@ -9,6 +9,7 @@ use lib.ListN.{drop}
 use borrow.Author.Tests.{eqb-true}
 use Rattle.list.specs.Pick.{pick}
 use Rattle.digits.specs.Digits.{isDelim}
+use Rattle.token.specs.Table.{withSegment}
 use Rattle.token.specs.declared.Token.{Token}
 use Rattle.segment.specs.Segment.{Field, Fields, leftover, overflow, starts, segmentOf, fieldsFrom}
 use Rattle.segment.specs.Segment as segment
@@ -82,14 +83,14 @@ module _ (sources names : ℕ) where
   -- ---- a step: what stands behind the token that it gives is known
   abbrev pub Goes : State → List ℕ → Step → Type 0
   Goes s bs (Step.Put t begin s′) =
-      (s .at ≤ s′ .at) × (Border (drop (s′ .at - s .at) bs) × ((ts : List Token) → Behind s′ (drop (s′ .at - s .at) bs) ts → Both s bs (t ∷ ts)))
+      (s .at ≤ s′ .at) × (Border (drop (s′ .at - s .at) bs) × ((ts : List Token) → Behind s′ (drop (s′ .at - s .at) bs) ts → Both s bs (withSegment t begin ∷ ts)))
   Goes s bs (Step.Refuse code offset) = Refusal code
   Goes s bs Step.Done = Both s bs []
 
   later : (s : State) (d : Delimiter) (b : ℕ) (bs : List ℕ) (r : Step) → after s d .at ≡ s .at + 1 → b ≡ character d → Goes (after s d) bs r → Goes s (b ∷ bs) r
   later s d b bs (Step.Put t begin s′) a e h =
       let n : s′ .at - s .at ≡ suc (s′ .at - after s d .at) = omega (arith, h .0, a) in
-      (omega (arith, h .0, a), (rw n (h .1 .0), λ ts p. past-one s d b bs (t ∷ ts) e (h .1 .1 ts (rw n at p) .0)))
+      (omega (arith, h .0, a), (rw n (h .1 .0), λ ts p. past-one s d b bs (withSegment t begin ∷ ts) e (h .1 .1 ts (rw n at p) .0)))
   later s d b bs (Step.Refuse code offset) a e h = h
   later s d b bs Step.Done a e h = past-one s d b bs [] e (h .0)
 

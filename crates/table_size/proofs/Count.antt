@@ -11,6 +11,7 @@ use lib.ListN.{length, drop, getD, drop-of-length-le}
 use lib.Seq.{drop-cons}
 use borrow.Author.Tests.{lt-ltb, le-ltb, eq-eqb, ne-eqb}
 use Rattle.list.specs.Pick.{pick}
+use Rattle.token.specs.Table.{width}
 use Rattle.digits.specs.Digits.{isDelim, classOf}
 use Rattle.digits.proofs.Tables.{code-cases}
 use Rattle.table_size.specs.Size.{segmentsFrom}
@@ -53,8 +54,8 @@ module _ (text : List ℕ) (n : ℕ) (inside : Bool) (i : ℕ) (c : Counting tex
         record { is = rw em (t ∙ rw (← headed) (c .is)); few = rw em (omega (arith, grown d inside, c .few)) }
 
 -- so many numbers
-pub more : (n : ℕ) → 18446744073709551615 / 6 < n → _≡_ {A = ℕ} 18446744073709551615 (pick (ltb 18446744073709551615 (6 * n)) 18446744073709551615 (6 * n))
-more n h = rw (lt-ltb 18446744073709551615 (6 * n) (omega arith))
+pub more : (n : ℕ) → 18446744073709551615 / width < n → _≡_ {A = ℕ} 18446744073709551615 (pick (ltb 18446744073709551615 (width * n)) 18446744073709551615 (width * n))
+more n h = rw (lt-ltb 18446744073709551615 (width * n) (omega arith))
 
-pub fewer : (n : ℕ) → n ≤ 18446744073709551615 / 6 → 6 * n ≡ pick (ltb 18446744073709551615 (6 * n)) 18446744073709551615 (6 * n)
-fewer n h = rw (le-ltb 18446744073709551615 (6 * n) (omega arith))
+pub fewer : (n : ℕ) → n ≤ 18446744073709551615 / width → width * n ≡ pick (ltb 18446744073709551615 (width * n)) 18446744073709551615 (width * n)
+fewer n h = rw (le-ltb 18446744073709551615 (width * n) (omega arith))

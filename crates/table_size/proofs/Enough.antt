@@ -20,7 +20,8 @@ use Rattle.apply.specs.Apply.{applied}
 use Rattle.apply.proofs.Lands.{Plain, Lands, lands}
 use Rattle.step.specs.declared.Step.{Step}
 use Rattle.step.specs.Step.{start, commaed, lined, stepped, segmentStep, stepFrom, stepAt}
-use Rattle.decode.specs.Mapping.{full, placed, run, decoded}
+use Rattle.decode.specs.Mapping.{Out, run, decoded}
+use Rattle.decode.proofs.Runs.{run-by}
 use Rattle.table_size.specs.Size.{segmentsFrom, tableSize, NeverFull}
 
 -- ---- segments
@@ -123,26 +124,20 @@ module _ (mode : Mode) (sources names : ℕ) where
         let n : s .at + (s′ .at - s .at) ≡ s′ .at = omega (arith, h .0) in
         rw (drop-drop (s′ .at - s .at) (s .at) text, n) at (h .1)
 
-    never-full : (left : ℕ) (s : State) → segmentsFrom false (drop (s .at) text) ≤ left → Plain (run mode sources names text left s .code)
-    unfolding run
-    never-full zero s h = by (stepAt mode sources names text s) refl (fewer s (drop (s .at) text))
-      where
-        by : (r : Step) → stepAt mode sources names text s ≡ r → Fewer s (drop (s .at) text) r → Plain (full (length text) r .code)
-        by (Step.Put t begin s′) e f = absurd (omega (arith, puts s t begin s′ e))
-        by (Step.Refuse code offset) e f = f
-        by Step.Done e f = λ q. omega arith
-    never-full (suc left) s h =
-        by (stepAt mode sources names text s) refl (fewer s (drop (s .at) text)) (never-full left)
-      where
-        by : (r : Step) → stepAt mode sources names text s ≡ r → Fewer s (drop (s .at) text) r
-            → ((s′ : State) → segmentsFrom false (drop (s′ .at) text) ≤ left → Plain (run mode sources names text left s′ .code))
-            → Plain (placed (length text) r (run mode sources names text left) .code)
-        by (Step.Put t begin s′) e f ih = ih s′ (omega (arith, puts s t begin s′ e))
-        by (Step.Refuse code offset) e f ih = f
-        by Step.Done e f ih = λ q. omega arith
+    abbrev NotFull : ℕ → ℕ → State → Out → Type 0
+    NotFull index left s o = segmentsFrom false (drop (s .at) text) ≤ left → Plain (o .code)
+
+    never-full : (index left : ℕ) (s : State) → NotFull index left s (run mode sources names text index left s)
+    never-full =
+        run-by mode sources names text NotFull
+        (λ index left s e h. λ q. omega arith)
+        (λ index left s code offset e h. subst (Fewer s (drop (s .at) text)) e (fewer s (drop (s .at) text)))
+        (λ index left s t begin s′ e l h. λ q. omega arith)
+        (λ index s t begin s′ e l h. absurd (omega (arith, puts s t begin s′ e)))
+        (λ index left s t begin s′ o e l ih h. ih (omega (arith, puts s t begin s′ e)))
 
     pub enough : (room : ℕ) → segmentsFrom false text ≤ room → Plain (decoded mode sources names text room .code)
-    enough room h = never-full room start h
+    enough room h = never-full 0 room start h
 
 -- the size in numbers
 size-by : (t : Bool) (n m l : ℕ) → ltb m n ≡ t → pick t m n ≤ l → l < m → n ≤ l

@@ -36,7 +36,8 @@ fits-token t xs e =
     let d = fits-cons _ _ (c .1) in
     let s = fits-cons _ _ (d .1) in
     let n = fits-cons _ _ (s .1) in
-    (record { line = a .0; col = b .0; srcLine = c .0; srcCol = d .0; source = s .0; name = n .0 }, n .1)
+    let g = fits-cons _ _ (n .1) in
+    (record { line = a .0; col = b .0; srcLine = c .0; srcCol = d .0; source = s .0; name = n .0 }, g .1)
 
 pub record Held (p : TokenChunk) : Type 0 where
   pub col : p .«prev_dst_col» < 2 ^ 32

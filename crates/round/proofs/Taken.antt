@@ -8,7 +8,7 @@ use lib.IntN.{pos, _+ℤ_}
 use lib.ListN.{length}
 use borrow.Author.Tests.{eqb-true, lt-ltb}
 use Rattle.code.specs.declared.Code.{Code}
-use Rattle.token.specs.Table.{noId, isNone}
+use Rattle.token.specs.Table.{noId, noSegment, token, withSegment, isNone}
 use Rattle.token.specs.declared.Token.{Token}
 use Rattle.token.specs.declared.TokenChunk.{TokenChunk}
 use Rattle.value.specs.Value.{valueOf, numberOf}
@@ -48,9 +48,13 @@ takes-cons : (mode : Mode) (v : ℕ) (vs : List ℕ) → takesEach mode (v ∷ v
 unfolding takesEach
 takes-cons mode v vs e = both-true (takes mode v) (takesEach mode vs) e
 
+-- the token that a step gives: it does not say yet where its segment begins
+abbrev pub bare : Token → Token
+bare t = withSegment t noSegment
+
 -- t from its numbers
 token-is : (t : Token) (c d e f : ℕ) → t .«src_line» ≡ c → t .«src_col» ≡ d → t .«source_id» ≡ e → t .«name_id» ≡ f
-    → record { «dst_line» = t .«dst_line»; «dst_col» = t .«dst_col»; «src_line» = c; «src_col» = d; «source_id» = e; «name_id» = f } ≡ t
+    → token (t .«dst_line») (t .«dst_col») c d e f noSegment ≡ bare t
 token-is t c d e f ec ed ee ef = rw (← ec, ← ed, ← ee, ← ef)
 
 module _ (p : TokenChunk) (t : Token) where
@@ -114,7 +118,7 @@ module _ (p : TokenChunk) (t : Token) where
 
     -- the fields give the token
     abbrev Taken : List ℕ → Type 0
-    Taken vs = applied mode sources names (ledTo p t at) (seg vs) ≡ Applied.Took t (stateOf (after p t) next)
+    Taken vs = applied mode sources names (ledTo p t at) (seg vs) ≡ Applied.Took (bare t) (stateOf (after p t) next)
 
     -- ---- each sum is the token's own number
     col : takes mode v₀ ≡ true → sumOf mode (pos (baseOf p t) +ℤ numberOf (valueOf mode v₀ 0)) ≡ Kept.At (t .«dst_col»)

@@ -14,7 +14,7 @@ use Rattle.encode.specs.Encode.{bytesIn, Encodes}
 use Rattle.premises.specs.Premises.{SoundTable, Decides}
 use Rattle.checked_premises.specs.Checked.{DecidesChecked}
 use Rattle.value.specs.declared.Mode.{Mode}
-use Rattle.round.specs.Terms.{SameTable, whole, Call, Cut, joined, lastState, AllDone, Gives, ReadsBack}
+use Rattle.round.specs.Terms.{SameTable, whole, Call, Cut, joined, lastState, AllDone, Early, Gives, ReadsBack}
 
 -- each call is done, and bytes and end state are those of the one call
 pub record AsOne (ks : List Call) (e : Encoded) (out′ : List ℕ) : Type 0 where
@@ -29,31 +29,31 @@ ChunksJoin =
     → Cut table (fresh 0 0) ks → length (bytesIn table (whole table)) ≤ length out → Encodes table (whole table) out e out′
     → AsOne ks e out′
 
--- a table that is written whole reads back
+-- a table that is written whole reads back, if every segment of the text begins early enough
 abbrev pub WriteAndRead : Type 0
 WriteAndRead =
     (sources names : ℕ) (xs out : List ℕ) (e : Encoded) (out′ : List ℕ) → SoundTable sources names xs → length (bytesIn xs (whole xs)) ≤ length out
-    → Encodes xs (whole xs) out e out′ → (e .code ≡ Code.Done) × ReadsBack sources names xs (take (e .bytes) out′)
+    → Encodes xs (whole xs) out e out′ → (e .code ≡ Code.Done) × (Early (take (e .bytes) out′) → ReadsBack sources names xs (take (e .bytes) out′))
 
 -- and wherever it is cut
 abbrev pub CutAndRead : Type 0
 CutAndRead =
     (sources names : ℕ) (xs : List ℕ) (ks : List Call) → SoundTable sources names xs → Cut xs (fresh 0 0) ks
-    → AllDone ks × ReadsBack sources names xs (joined ks)
+    → AllDone ks × (Early (joined ks) → ReadsBack sources names xs (joined ks))
 
 -- where the test of the premises says yes
 abbrev pub SurelyReadsBack : Type 0
 SurelyReadsBack =
     (sources names : ℕ) (xs : List ℕ) (r : Bool) (ks : List Call) → Decides xs sources names r → r ≡ true → Cut xs (fresh 0 0) ks
-    → AllDone ks × ReadsBack sources names xs (joined ks)
+    → AllDone ks × (Early (joined ks) → ReadsBack sources names xs (joined ks))
 
 -- where the test of both premises says yes, in checked mode too
 abbrev pub SurelyInBoth : Type 0
 SurelyInBoth =
     (sources names : ℕ) (xs : List ℕ) (r : Bool) (ks : List Call) → DecidesChecked xs sources names r → r ≡ true → Cut xs (fresh 0 0) ks
-    → AllDone ks × (Gives Mode.Lenient sources names xs (joined ks) × Gives Mode.Checked sources names xs (joined ks))
+    → AllDone ks × (Early (joined ks) → Gives Mode.Lenient sources names xs (joined ks) × Gives Mode.Checked sources names xs (joined ks))
 
--- no two tables make one text, each cut as it likes, though each meets the premises with counts of its own
+-- no two tables make one text, wherever its segments begin, each cut as it likes, though each meets the premises with counts of its own
 abbrev pub OneText : Type 0
 OneText =
     (sources names sources′ names′ : ℕ) (a b : List ℕ) (ks ls : List Call) → SoundTable sources names a → SoundTable sources′ names′ b

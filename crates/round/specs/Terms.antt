@@ -2,26 +2,26 @@
 use mathlib.Core.Path.{_≡_}
 use mathlib.Core.Bool.{true, false}
 use mathlib.Core.List.{List, [], _∷_, _++_}
-use Prim.Native.Nat.{ℕ, _+_, _≤_}
+use Prim.Native.Nat.{ℕ, _+_, _*_, _<_, _≤_}
 use lib.Dec.{eqb}
-use lib.ListN.{length, take}
-use Rattle.list.specs.Memory.{onto}
+use lib.ListN.{length, take, drop}
 use Rattle.list.specs.Pick.{pick}
 use Rattle.code.specs.declared.Code.{Code}
-use Rattle.token.specs.Table.{places, tokensOf, over}
+use Rattle.token.specs.Table.{noSegment, width, SameTokens, places, tokensFrom, tokensOf}
 use Rattle.token.specs.declared.Token.{Token}
 use Rattle.token.specs.declared.TokenChunk.{TokenChunk}
 use Rattle.value.specs.declared.Mode.{Mode}
 use Rattle.decode.specs.declared.Decoded.{Decoded}
 use Rattle.decode.specs.Mapping.{Decodes}
+use Rattle.decode.specs.Where.{Begins}
 use Rattle.chunk.specs.Chunk.{fresh, withEnds, lead, fieldsOf, spelled, written, endOf}
 use Rattle.encode.specs.declared.Encoded.{Encoded}
 use Rattle.encode.specs.Encode.{bytesIn, Encodes}
 use Rattle.checked_premises.specs.Checked.{takes, takesEach, takesFrom, takesAll}
 
--- when tables count as the same
+-- when tables count as the same: where their tokens agree in the first six numbers
 abbrev pub SameTable : List ℕ → List ℕ → Type 0
-SameTable a b = a ≡ b
+SameTable a b = SameTokens (tokensOf a) (tokensOf b)
 
 -- the one chunk that is the whole table
 abbrev pub whole : List ℕ → TokenChunk
@@ -65,11 +65,20 @@ AllDone (k ∷ ks) = (k .answer .code ≡ Code.Done) × AllDone ks
 
 -- ---- what reads back
 
--- decoded into any table with room for it, the text gives the table xs: all its tokens, and past them what was there before
+-- every segment of the text begins where a token can say so
+abbrev pub Early : List ℕ → Type 0
+Early text = (begin : ℕ) → Begins text begin → begin < noSegment
+
+-- the table then holds tokens that agree with ts in the first six numbers, and past them what it held before
+pub record Holds (ts : List Token) (table table′ : List ℕ) : Type 0 where
+  pub same : SameTokens (tokensFrom table′ 0 (length ts)) ts
+  pub kept : drop (width * length ts) table′ ≡ drop (width * length ts) table
+
+-- decoded into any table with room for it, the text gives all tokens of the table xs
 abbrev pub Gives : Mode → ℕ → ℕ → List ℕ → List ℕ → Type 0
 Gives mode sources names xs text =
     (table : List ℕ) (d : Decoded) (table′ : List ℕ) → length xs ≤ length table → Decodes mode sources names text table d table′
-    → (d ≡ record { code = Code.Done; tokens = places (length xs); offset = length text }) × SameTable table′ (onto xs table)
+    → (d ≡ record { code = Code.Done; tokens = places (length xs); offset = length text }) × Holds (tokensOf xs) table table′
 
 -- the index of the first of these values that checked mode does not take
 unfoldable pub firstOff : List ℕ → ℕ
@@ -92,7 +101,7 @@ bytesBefore i p before t =
     + length (spelled (take (firstOff (fieldsOf (endOf p before) t)) (fieldsOf (endOf p before) t))))
 
 -- decoded in checked mode into any table with room for it, the text is refused at such a token, for its first such value, whose first
--- digit is the offset: the tokens before it are written, and past them is what was there before
+-- digit is the offset: the tokens before it are written
 pub record Refused (xs table : List ℕ) (d : Decoded) (table′ : List ℕ) : Type 0 where
   pub before : List Token
   pub t : Token
@@ -100,7 +109,7 @@ pub record Refused (xs table : List ℕ) (d : Decoded) (table′ : List ℕ) : T
   pub code : d .code ≡ Code.WideValue (firstOff (fieldsOf (endOf (fresh 0 0) before) t))
   pub tokens : d .tokens ≡ length before
   pub offset : d .offset ≡ bytesBefore 0 (fresh 0 0) before t
-  pub wrote : table′ ≡ over before table
+  pub wrote : Holds before table table′
 
 abbrev pub Refuses : ℕ → ℕ → List ℕ → List ℕ → Type 0
 Refuses sources names xs text =

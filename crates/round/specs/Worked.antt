@@ -7,7 +7,7 @@ use Prim.Native.Nat.{ℕ}
 use native.Mathlib.Omega.{arith}
 use Rattle.list.specs.Memory.{onto}
 use Rattle.code.specs.declared.Code.{Code}
-use Rattle.token.specs.Table.{noId, tokenAt, tokensFrom}
+use Rattle.token.specs.Table.{noId, noSegment, tokenAt, tokensFrom}
 use Rattle.digits.specs.Digits.{charOf}
 use Rattle.vlq_write.specs.Write.{vlqValue, digitsOf}
 use Rattle.chunk.specs.Chunk.{chunkOf, fresh, lead, baseOf, fieldsOf, spelled, bytesOf, after, written, endOf, firstBack}
@@ -15,9 +15,9 @@ use Rattle.encode.specs.Encode.{bytesIn, givenBack, encoded}
 use Rattle.premises.specs.Premises.{follows, follow, decides}
 use Rattle.round.specs.Terms.{whole, Call, Cut, joined}
 
--- 0 0 2 3 0 none; 1 1 2 3 none none
+-- 0 0 2 3 0 none; 1 1 2 3 none none; with some seventh numbers, which the writer does not look at
 abbrev pair : List ℕ
-pair = 0 ∷ 0 ∷ 2 ∷ 3 ∷ 0 ∷ noId ∷ 1 ∷ 1 ∷ 2 ∷ 3 ∷ noId ∷ noId ∷ []
+pair = 0 ∷ 0 ∷ 2 ∷ 3 ∷ 0 ∷ noId ∷ 7 ∷ 1 ∷ 1 ∷ 2 ∷ 3 ∷ noId ∷ noId ∷ noSegment ∷ []
 
 pub meets : decides pair 1 0 ≡ true
 unfolding decides follow follows tokensFrom tokenAt
@@ -56,7 +56,7 @@ short-pair = refl
 
 -- two tokens 0 0 0 0 0 none: `AAAA,AAAA`
 abbrev equals : List ℕ
-equals = 0 ∷ 0 ∷ 0 ∷ 0 ∷ 0 ∷ noId ∷ 0 ∷ 0 ∷ 0 ∷ 0 ∷ 0 ∷ noId ∷ []
+equals = 0 ∷ 0 ∷ 0 ∷ 0 ∷ 0 ∷ noId ∷ 0 ∷ 0 ∷ 0 ∷ 0 ∷ 0 ∷ 0 ∷ noId ∷ 5 ∷ []
 
 pub twice : bytesIn equals (whole equals) ≡ 65 ∷ 65 ∷ 65 ∷ 65 ∷ 44 ∷ 65 ∷ 65 ∷ 65 ∷ 65 ∷ []
 unfolding tokensFrom tokenAt written bytesOf lead spelled fieldsOf baseOf after vlqValue digitsOf charOf

@@ -1,4 +1,5 @@
 pub mod Fields
 pub mod Lead
 pub mod Lists
+pub mod Same
 pub mod State

@@ -87,7 +87,7 @@ pub record SmallState (p : TokenChunk) : Type 0 where
 
 -- from what the checker knows of a struct's fields
 pub small-token : (t : Token)
-    → Fits w32 (t .«dst_line») × (Fits w32 (t .«dst_col») × (Fits w32 (t .«src_line») × (Fits w32 (t .«src_col») × (Fits w32 (t .«source_id») × (Fits w32 (t .«name_id») × Unit {0})))))
+    → Fits w32 (t .«dst_line») × (Fits w32 (t .«dst_col») × (Fits w32 (t .«src_line») × (Fits w32 (t .«src_col») × (Fits w32 (t .«source_id») × (Fits w32 (t .«name_id») × (Fits w32 (t .segment) × Unit {0}))))))
     → SmallToken t
 small-token t g =
     record {

@@ -3,18 +3,13 @@ use mathlib.Core.Path.{_≡_, refl}
 use mathlib.Core.List.{List, [], _∷_}
 use Prim.Native.Nat.{ℕ}
 use Rattle.code.specs.declared.Code.{Code}
-use Rattle.token.specs.Table.{noId, tokenAt, tokensFrom}
-use Rattle.token.specs.declared.Token.{Token}
+use Rattle.token.specs.Table.{noId, noSegment, tokenAt, tokensFrom}
 use Rattle.token.specs.declared.TokenChunk.{TokenChunk}
 use Rattle.digits.specs.Digits.{charOf}
 use Rattle.vlq_write.specs.Write.{vlqValue, digitsOf}
 use Rattle.chunk.specs.Chunk.{lead, baseOf, fieldsOf, spelled, bytesOf, after, written, endOf, firstBack}
 use Rattle.encode.specs.Encode.{bytesIn, givenBack, encoded}
 use Rattle.encode.specs.declared.Encoded.{Encoded}
-
-abbrev token : ℕ → ℕ → ℕ → ℕ → ℕ → ℕ → Token
-token a b c d e f =
-    record { «dst_line» = a; «dst_col» = b; «src_line» = c; «src_col» = d; «source_id» = e; «name_id» = f }
 
 -- line, column, source line, source column, name id, source id
 abbrev chunk : ℕ → ℕ → ℕ → ℕ → ℕ → ℕ → ℕ → ℕ → TokenChunk
@@ -38,15 +33,19 @@ done bytes next = record { code = Code.Done; bytes = bytes; next = next }
 
 -- the tokens of `AAEG;C`
 abbrev pair : List ℕ
-pair = 0 ∷ 0 ∷ 2 ∷ 3 ∷ 0 ∷ noId ∷ 1 ∷ 1 ∷ 2 ∷ 3 ∷ noId ∷ noId ∷ []
+pair = 0 ∷ 0 ∷ 2 ∷ 3 ∷ 0 ∷ noId ∷ 0 ∷ 1 ∷ 1 ∷ 2 ∷ 3 ∷ noId ∷ noId ∷ 5 ∷ []
+
+-- the same, said to begin elsewhere in their text
+abbrev elsewhere : List ℕ
+elsewhere = 0 ∷ 0 ∷ 2 ∷ 3 ∷ 0 ∷ noId ∷ noSegment ∷ 1 ∷ 1 ∷ 2 ∷ 3 ∷ noId ∷ noId ∷ 4 ∷ []
 
 -- the state after the first of them
 abbrev between : TokenChunk
 between = chunk 1 2 0 0 2 3 0 0
 
--- two tokens 0 0 0 0 0 none
+-- two tokens 0 0 0 0 0 none, of segments at 7 and at 9
 abbrev twins : List ℕ
-twins = 0 ∷ 0 ∷ 0 ∷ 0 ∷ 0 ∷ noId ∷ 0 ∷ 0 ∷ 0 ∷ 0 ∷ 0 ∷ noId ∷ []
+twins = 0 ∷ 0 ∷ 0 ∷ 0 ∷ 0 ∷ noId ∷ 7 ∷ 0 ∷ 0 ∷ 0 ∷ 0 ∷ 0 ∷ noId ∷ 9 ∷ []
 
 -- `AAEG;C` whole
 pub whole : bytesIn pair (zeros 0 2) ≡ 65 ∷ 65 ∷ 69 ∷ 71 ∷ 59 ∷ 67 ∷ []
@@ -56,6 +55,11 @@ whole = refl
 pub whole-answer : encoded pair (zeros 0 2) 6 ≡ done 6 (chunk 2 2 1 1 2 3 0 0)
 unfolding tokenAt tokensFrom charOf vlqValue digitsOf lead baseOf fieldsOf spelled bytesOf after written endOf firstBack encoded
 whole-answer = refl
+
+-- where a token's segment began is not written
+pub same-elsewhere : bytesIn elsewhere (zeros 0 2) ≡ bytesIn pair (zeros 0 2)
+unfolding tokenAt tokensFrom charOf vlqValue digitsOf lead baseOf fieldsOf spelled bytesOf after written
+same-elsewhere = refl
 
 -- cut after the first: `AAEG`, then `;C`
 pub first-half : bytesIn pair (zeros 0 1) ≡ 65 ∷ 65 ∷ 69 ∷ 71 ∷ []

@@ -24,7 +24,7 @@ use Rattle.lines.proofs.Words.{word-fits, word-put, both-fit, both-put,
 -- what the checker knows of a token's numbers
 abbrev pub Known : Token → Type 0
 Known t =
-    Fits w32 (t .«dst_line») × (Fits w32 (t .«dst_col») × (Fits w32 (t .«src_line») × (Fits w32 (t .«src_col») × (Fits w32 (t .«source_id») × (Fits w32 (t .«name_id») × Unit {0})))))
+    Fits w32 (t .«dst_line») × (Fits w32 (t .«dst_col») × (Fits w32 (t .«src_line») × (Fits w32 (t .«src_col») × (Fits w32 (t .«source_id») × (Fits w32 (t .«name_id») × (Fits w32 (t .segment) × Unit {0}))))))
 
 -- six words of ten bytes
 six : (a b c d e f : List ℕ) → length a ≤ 10 → length b ≤ 10 → length c ≤ 10 → length d ≤ 10 → length e ≤ 10 → length f ≤ 10

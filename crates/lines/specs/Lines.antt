@@ -19,7 +19,7 @@ line (w ∷ (v ∷ ws)) = w ++ (32 ∷ line (v ∷ ws))
 unfoldable pub idText : ℕ → List ℕ
 idText id = pick (isNone id) (45 ∷ []) (figuresOf id)
 
--- a token: its six numbers
+-- a token: its first six numbers
 unfoldable pub tokenLine : Token → List ℕ
 tokenLine t =
     line (figuresOf (t .«dst_line») ∷ figuresOf (t .«dst_col») ∷ figuresOf (t .«src_line») ∷ figuresOf (t .«src_col»)

@@ -65,6 +65,10 @@ module _ (table : List ℕ) (line col : ℕ) where
   among zero = λ j h g. omega arith
   among (suc n) = step n (bestOf table line col n) (fits table line col n) refl (among n)
 
+  -- what is found among the first n is one of them
+  pub among-first : (n i : ℕ) → bestOf table line col n ≡ some i → i < n
+  among-first n i e = subst (Among n) e (among n) .0
+
   of : (o : Option ℕ) → lookupOf table line col ≡ o → Among (places (length table)) o
   of o e = subst (Among (places (length table))) e (among (places (length table)))
 

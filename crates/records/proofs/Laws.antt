@@ -21,7 +21,7 @@ use Rattle.records.specs.declared.Answer.{Answer}
 
 -- what stands past a list's end
 abbrev pub noToken : Token
-noToken = record { «dst_line» = 0; «dst_col» = 0; «src_line» = 0; «src_col» = 0; «source_id» = 0; «name_id» = 0 }
+noToken = record { «dst_line» = 0; «dst_col» = 0; «src_line» = 0; «src_col» = 0; «source_id» = 0; «name_id» = 0; segment = 0 }
 
 -- ---- a list whose first i elements have been replaced by f of them
 module _ {A : Type 0} (f : A → A) (ys : List A) where

@@ -28,7 +28,15 @@ pub token-past : (ts : List Token) (xs : List ℕ) (i : ℕ) → length ts ≤ i
 unfolding tokenAt
 token-past ts xs i h =
     let e = length-flat ts in
-    rw (onto-past (flat ts) xs (width * i) (omega arith), onto-past (flat ts) xs (width * i + 1) (omega arith), onto-past (flat ts) xs (width * i + 2) (omega arith), onto-past (flat ts) xs (width * i + 3) (omega arith), onto-past (flat ts) xs (width * i + 4) (omega arith), onto-past (flat ts) xs (width * i + 5) (omega arith))
+    rw (
+      onto-past (flat ts) xs (width * i) (omega arith),
+      onto-past (flat ts) xs (width * i + 1) (omega arith),
+      onto-past (flat ts) xs (width * i + 2) (omega arith),
+      onto-past (flat ts) xs (width * i + 3) (omega arith),
+      onto-past (flat ts) xs (width * i + 4) (omega arith),
+      onto-past (flat ts) xs (width * i + 5) (omega arith),
+      onto-past (flat ts) xs (width * i + 6) (omega arith),
+    )
 
 module _ (line source name : ℕ) where
   pub length-moved : (ts : List Token) → length (allMoved line source name ts) ≡ length ts

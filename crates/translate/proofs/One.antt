@@ -74,6 +74,7 @@ module _ (line source name : ℕ) (t : Token) where
         «src_col» = t .«src_col»;
         «source_id» = s;
         «name_id» = n;
+        segment = t .segment;
       }
       ≡ moved line source name t
   unfolding moved

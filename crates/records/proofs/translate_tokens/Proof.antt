@@ -119,6 +119,10 @@ half = tyInt w32
 abbrev slice : Ty
 slice = sliceTy (tyRef (named 0) mut (pointee (T.the-row .written)))
 
+-- the bytes of a record: seven numbers of four
+abbrev size : ℕ
+size = 28
+
 -- a constant of 2 ^ 31 or more, which MIR writes as `intBig`
 big-lit : {M : Type 1} {𝓤 : URA M} {H : Heap 𝓤} {A : Atoms 𝓤} {K : Type 0} {W : Given 𝓤 H A} {Γ : List (Item 𝓤)} {En : Env 𝓤 H} → K → {w : Width} {n : ℕ} → Fits w n → Opd K W Γ En (intBig w n) (vint w n)
 big-lit {𝓤 = 𝓤} t {w} {n} z = record { go = λ Kt h. via 𝓤 (Kt (vint w n)) h (guardI 𝓤 (Fits w n) (Kt (vint w n)) z) }
@@ -197,8 +201,8 @@ module _ {M : Type 1} (𝓤 : URA M) (H : Heap 𝓤) (A : Atoms 𝓤) (W : Given
       qed W [] ∵ says ! fits $ nothing ! $ nothing ! $ owned ! u32 (Is u32) (uint-makes 𝓤 H A W w32) m _ (refl, gm) $ fjoin ! $ owned ! u32 (Is u32) (uint-makes 𝓤 H A W w32) s _ (refl, gs) $ fjoin ! $ owned ! u32 (Is u32) (uint-makes 𝓤 H A W w32) a _ (refl, ga) $ fjoin ! $
       owned ! T.the-row (Is T.the-row) (LL.makes T.the-type T′.the-plain 𝓤 H A) t _ is $ fjoin ! $ move ! (1 ∷ 0 ∷ []) $ join ! $ done !
 
-  scaled : (i : ℕ) → i < n → i * 24 < 2 ^ 64
-  scaled i l = let r : n * 24 < 2 ^ 63 = gn .1 in omega arith
+  scaled : (i : ℕ) → i < n → i * size < 2 ^ 64
+  scaled i l = let r : n * size < 2 ^ 63 = gn .1 in omega arith
 
   fits : (i : ℕ) → i ≤ n → i < 2 ^ 64
   fits i l = lt-of-le-of-lt l (gn .0)
@@ -281,7 +285,7 @@ module _ {M : Type 1} (𝓤 : URA M) (H : Heap 𝓤) (A : Atoms 𝓤) (W : Given
           skips ! $ exec ! (𝓣 .C) (𝓣 .Λ) En replacing (anyQ (Turned i)) $
           assigns ! (bin ! (load ! (from ! (stop !)) (look ! 32 refl)) (lit ! tt) (record { fits = scaled (i .0) l })) (from ! (stop !)) (store ! 12 refl (tt, record { fits = scaled (i .0) l })) $
           assigns ! (bin ! (load ! (from ! (fld ! refl (stop !))) (look-in ! 44 (sub ! 0 refl (whole !)))) (load ! (from ! (stop !)) (look ! 12 refl)) tt) (from ! (stop !)) (init ! 8 refl (tt, tt)) $
-          rewrite ! 8 (λ (p : ℕ). ‵ (fat fullShare tyPtr l₁₉ 0 (vptr b p))) (sym (place-is 24 o (i .0))) refl $
+          rewrite ! 8 (λ (p : ℕ). ‵ (fat fullShare tyPtr l₁₉ 0 (vptr b p))) (sym (place-is size o (i .0))) refl $
           elem-out ! T.the-row (Is T.the-row) (shows 𝓤 H A T.the-row) vals (LL.tells T.the-type T′.the-laws) fullShare zsᵢ (i .0) noToken b o (here l) (λ is.
           -- [ts[j]; what it owns; the others; the open borrow; obs; auth; _21; …; _0; …]
           assigns ! (of-opd ! (load ! (from ! (hop ! (look ! 10 refl) (stop !))) (look-raw ! 0 refl))) (from ! (stop !)) (init ! 8 refl (LL.lawful T.the-type T′.the-laws 𝓤 H A W .typed tᵢ _ is .0)) $
@@ -295,7 +299,7 @@ module _ {M : Type 1} (𝓤 : URA M) (H : Heap 𝓤) (A : Atoms 𝓤) (W : Given
           land ! (from ! (stop !)) (store ! 9 refl (LL.lawful T.the-type T′.the-laws 𝓤 H A W .typed r _ isr .0)) $
           assigns ! (bin ! (load ! (from ! (stop !)) (look ! 35 refl)) (lit ! tt) (record { fits = scaled (i .0) l })) (from ! (stop !)) (store ! 15 refl (tt, record { fits = scaled (i .0) l })) $
           assigns ! (bin ! (load ! (from ! (fld ! refl (stop !))) (look-in ! 47 (sub ! 0 refl (whole !)))) (load ! (from ! (stop !)) (look ! 15 refl)) tt) (from ! (stop !)) (init ! 7 refl (tt, tt)) $
-          rewrite ! 7 (λ (p : ℕ). ‵ (fat fullShare tyPtr l₂₁ 0 (vptr b p))) (sym (place-is 24 o (i .0))) refl $
+          rewrite ! 7 (λ (p : ℕ). ‵ (fat fullShare tyPtr l₂₁ 0 (vptr b p))) (sym (place-is size o (i .0))) refl $
           assigns ! (of-opd ! (load ! (from ! (stop !)) (look ! 9 refl))) (from ! (hop ! (look ! 7 refl) (stop !))) (store-raw ! 1 refl (LL.lawful T.the-type T′.the-laws 𝓤 H A W .typed r _ isr .0)) $
           move ! (2 ∷ []) $ drop ! $ move ! (1 ∷ 0 ∷ []) $ elem-put ! T.the-row fullShare zsᵢ (i .0) r (v ∷ []) b o (here l) $
           rewrite ! 0 (λ (ws : List Token). ‵ (row T.the-row fullShare ws b o)) (next-row l r e) refl $
@@ -355,7 +359,7 @@ module _ {M : Type 1} (𝓤 : URA M) (H : Heap 𝓤) (A : Atoms 𝓤) (W : Given
           skips ! $ exec ! (𝓣 .C) (𝓣 .Λ) En looking (anyQ (Turned₁ i)) $
           assigns ! (bin ! (load ! (from ! (stop !)) (look ! 36 refl)) (lit ! tt) (record { fits = scaled (i .0) l })) (from ! (stop !)) (store ! 24 refl (tt, record { fits = scaled (i .0) l })) $
           assigns ! (bin ! (load ! (from ! (fld ! refl (stop !))) (look-in ! 44 (sub ! 0 refl (whole !)))) (load ! (from ! (stop !)) (look ! 24 refl)) tt) (from ! (stop !)) (init ! 20 refl (tt, tt)) $
-          rewrite ! 20 (λ (p : ℕ). ‵ (fat fullShare tyPtr l₁₃ 0 (vptr b p))) (sym (place-is 24 o (i .0))) refl $
+          rewrite ! 20 (λ (p : ℕ). ‵ (fat fullShare tyPtr l₁₃ 0 (vptr b p))) (sym (place-is size o (i .0))) refl $
           elem-out ! T.the-row (Is T.the-row) (shows 𝓤 H A T.the-row) vals (LL.tells T.the-type T′.the-laws) fullShare ys (i .0) noToken b o l (λ is.
           assigns ! (of-opd ! (load ! (from ! (hop ! (look ! 22 refl) (stop !))) (look-raw ! 0 refl))) (from ! (stop !)) (init ! 20 refl (LL.lawful T.the-type T′.the-laws 𝓤 H A W .typed tᵢ _ is .0)) $
           assigns ! (of-opd ! (load ! (from ! (stop !)) (look ! 20 refl))) (from ! (stop !)) (init ! 36 refl (LL.lawful T.the-type T′.the-laws 𝓤 H A W .typed tᵢ _ is .0)) $

@@ -5,6 +5,7 @@ pub mod Fields
 pub mod Judged
 pub mod Lead
 pub mod Round
+pub mod Same
 pub mod Run
 pub mod Stops
 pub mod Sums

@@ -20,7 +20,10 @@ use Rattle.premises.specs.Premises.{idWithin, follows, follow, premises, decide
 use Rattle.checked_premises.specs.Checked.{takes, takesEach, takesFrom, takesAll}
 use Rattle.list.proofs.Pick.{both-true}
 use Rattle.round.proofs.Facts.{Held}
-use Rattle.round.proofs.Run.{run-back}
+use Rattle.decode.proofs.Where.{Passed}
+use Rattle.round.specs.Terms.{Early}
+use Rattle.round.proofs.Taken.{stateOf}
+use Rattle.round.proofs.Run.{placed, run-back}
 use Rattle.round.proofs.Stops.{Outcome, run-stops}
 use Rattle.token.proofs.Whole.{flat-tokens}
 
@@ -33,19 +36,25 @@ pub record Sound (sources names : ℕ) (ts : List Token) : Type 0 where
   pub meets : premises sources names ts ≡ true
   pub fits : fits32 (flat ts) ≡ true
 
-zeros-held : Held (fresh 0 0)
+pub zeros-held : Held (fresh 0 0)
 zeros-held = record { col = omega arith; srcLine = omega arith; srcCol = omega arith; source = omega arith; name = omega arith }
 
-pub back : (mode : Mode) (sources names room : ℕ) (ts : List Token) → Sound sources names ts → takesAll mode ts ≡ true → length ts ≤ room
-    → decoded mode sources names (textOf ts) room ≡ record { tokens = ts; code = Code.Done; offset = length (textOf ts) }
-back mode sources names room ts s k l = run-back mode sources names ts (textOf ts) room 0 0 (fresh 0 0) zeros-held (s .fits) (s .meets) k l refl
+-- nothing stands before the start
+at-start : (mode : Mode) (sources names : ℕ) (text : List ℕ) → Passed mode sources names text (stateOf (fresh 0 0) 0)
+at-start mode sources names text = λ h. absurd (omega arith)
 
-pub refused : (sources names room : ℕ) (ts : List Token) → Sound sources names ts → takesAll Mode.Checked ts ≡ false → length ts ≤ room
+pub back : (mode : Mode) (sources names room : ℕ) (ts : List Token) → Sound sources names ts → takesAll mode ts ≡ true → length ts ≤ room → Early (textOf ts)
+    → decoded mode sources names (textOf ts) room ≡ record { tokens = placed 0 0 (fresh 0 0) ts; code = Code.Done; offset = length (textOf ts) }
+back mode sources names room ts s k l early =
+    run-back mode sources names ts (textOf ts) room 0 0 (fresh 0 0) zeros-held (s .fits) (s .meets) k l refl early (at-start mode sources names (textOf ts))
+
+pub refused : (sources names room : ℕ) (ts : List Token) → Sound sources names ts → takesAll Mode.Checked ts ≡ false → length ts ≤ room → Early (textOf ts)
     → Outcome 0 0 (fresh 0 0) ts (decoded Mode.Checked sources names (textOf ts) room)
-refused sources names room ts s k l = run-stops sources names ts (textOf ts) room 0 0 (fresh 0 0) zeros-held (s .fits) (s .meets) k l refl
+refused sources names room ts s k l early =
+    run-stops sources names ts (textOf ts) room 0 0 (fresh 0 0) zeros-held (s .fits) (s .meets) k l refl early (at-start Mode.Checked sources names (textOf ts))
 
 -- ---- lenient mode takes every value
-takes-each : (vs : List ℕ) → takesEach Mode.Lenient vs ≡ true
+pub takes-each : (vs : List ℕ) → takesEach Mode.Lenient vs ≡ true
 unfolding takesEach takes
 takes-each [] = refl
 takes-each (v ∷ vs) = takes-each vs

@@ -2,7 +2,7 @@
 use mathlib.Core.Path.{_≡_, refl, sym, _∙_, ap}
 use mathlib.Core.Bool.{Bool, true, false}
 use mathlib.Core.List.{List, [], _∷_, _++_, append-assoc}
-use Prim.Native.Nat.{ℕ, zero, suc, _+_, _≤_}
+use Prim.Native.Nat.{ℕ, zero, suc, _+_, _<_, _≤_}
 use native.Mathlib.Omega.{arith}
 use native.Mathlib.Nat.{not-suc-le-zero}
 use lib.Dec.{eqb}
@@ -11,8 +11,9 @@ use lib.Seq.{drop-drop, drop-append-seam}
 use borrow.Author.Tests.{ne-eqb}
 use Rattle.list.specs.Pick.{pick}
 use Rattle.code.specs.declared.Code.{Code}
-use Rattle.token.specs.Table.{flat}
+use Rattle.token.specs.Table.{noSegment, withSegment, firstSix, SameTokens, flat}
 use Rattle.token.specs.declared.Token.{Token}
+use Rattle.token.proofs.Same.{bare}
 use Rattle.token.specs.declared.TokenChunk.{TokenChunk}
 use Rattle.digits.specs.Digits.{isDelim}
 use Rattle.value.specs.declared.Mode.{Mode}
@@ -23,6 +24,10 @@ use Rattle.step.specs.declared.Step.{Step}
 use Rattle.apply.specs.Apply.{applied}
 use Rattle.step.specs.Step.{stepped, segmentStep, stepFrom, stepAt}
 use Rattle.decode.specs.Mapping.{tokenThen, run}
+use Rattle.decode.proofs.Runs.{run-done, run-put}
+use Rattle.decode.proofs.Where.{Passed, segment, lies-put}
+use Rattle.step.proofs.Ends.{closes}
+use Rattle.round.specs.Terms.{Early}
 use Rattle.chunk.specs.Chunk.{lead, baseOf, fieldsOf, spelled, bytesOf, after, written}
 use Rattle.premises.specs.Premises.{fits32}
 use Rattle.checked_premises.specs.Checked.{takesEach, takesFrom}
@@ -50,6 +55,25 @@ segment-begins mode sources names s b bs fs next d e =
 head-fields : (p : TokenChunk) (t : Token) (rest : List ℕ) → Head (spelled (fieldsOf p t) ++ rest)
 unfolding spelled fieldsOf
 head-fields p t rest = head-append _ rest (head-append _ _ (head _))
+
+-- ---- the tokens of a text that is written, with the places where their segments begin
+-- where the i-th token's segment begins, if its bytes begin at `at`
+abbrev pub beginOf : ℕ → ℕ → TokenChunk → Token → ℕ
+beginOf i at p t = at + length (lead (eqb i 0) (p .«prev_dst_line») (t .«dst_line»))
+
+unfoldable pub placed : ℕ → ℕ → TokenChunk → List Token → List Token
+placed i at p [] = []
+placed i at p (t ∷ ts) = withSegment t (beginOf i at p t) ∷ placed (i + 1) (at + length (bytesOf (eqb i 0) p t)) (after p t) ts
+
+pub same-placed : (i at : ℕ) (p : TokenChunk) (ts : List Token) → SameTokens (placed i at p ts) ts
+unfolding placed
+same-placed i at p [] = refl
+same-placed i at p (t ∷ ts) = ap (λ (r : List (List ℕ)). firstSix t ∷ r) (same-placed (i + 1) (at + length (bytesOf (eqb i 0) p t)) (after p t) ts)
+
+pub length-placed : (i at : ℕ) (p : TokenChunk) (ts : List Token) → length (placed i at p ts) ≡ length ts
+unfolding placed
+length-placed i at p [] = refl
+length-placed i at p (t ∷ ts) = ap suc (length-placed (i + 1) (at + length (bytesOf (eqb i 0) p t)) (after p t) ts)
 
 module _ (mode : Mode) (sources names : ℕ) where
   module _ (p : TokenChunk) (t : Token) (h : Held p) (f : Fits t) (w : After sources names p t) where
@@ -92,7 +116,7 @@ module _ (mode : Mode) (sources names : ℕ) where
 
     pub step-token : takesEach mode (fieldsOf p t) ≡ true → (first : Bool) (at : ℕ) (rest : List ℕ) → Ends rest
         → stepFrom mode sources names (stateOf p at) (bytesOf first p t ++ rest)
-        ≡ Step.Put t (at + length (lead first (p .«prev_dst_line») (t .«dst_line»))) (stateOf (after p t) (at + length (bytesOf first p t)))
+        ≡ Step.Put (bare t) (at + length (lead first (p .«prev_dst_line») (t .«dst_line»))) (stateOf (after p t) (at + length (bytesOf first p t)))
     step-token k first at rest z =
         step-bytes first at rest z _ (taken p t mode sources names h f w k (at + length (lead first (p .«prev_dst_line») (t .«dst_line»))) (at + length (bytesOf first p t)))
 
@@ -112,31 +136,51 @@ module _ (mode : Mode) (sources names : ℕ) where
   unfolding flat
   fits-after t ts f = fits-token t (flat ts) f
 
-  pub run-put : (text : List ℕ) (room : ℕ) (s s′ : State) (t : Token) (begin : ℕ) → stepAt mode sources names text s ≡ Step.Put t begin s′
-      → run mode sources names text (suc room) s ≡ tokenThen t (run mode sources names text room s′)
-  unfolding run
-  run-put text room s s′ t begin e = rw e
+  -- ---- a token that stands in a text where the writer left it
+  module _ (text : List ℕ) (i at : ℕ) (p : TokenChunk) (t : Token) (ts : List Token) (h : Held p) (f : fits32 (flat (t ∷ ts)) ≡ true)
+      (w : Meets sources names p (t ∷ ts)) (k : takesEach mode (fieldsOf p t) ≡ true) (e : drop at text ≡ written i p (t ∷ ts)) where
+    abbrev next : ℕ
+    next = at + length (bytesOf (eqb i 0) p t)
 
-  run-end : (text : List ℕ) (room : ℕ) (s : State) → drop (s .at) text ≡ []
-      → run mode sources names text room s ≡ record { tokens = []; code = Code.Done; offset = length text }
-  unfolding run stepFrom
-  run-end text zero s e = rw e
-  run-end text (suc room) s e = rw e
+    pub steps-on : stepAt mode sources names text (stateOf p at) ≡ Step.Put (bare t) (beginOf i at p t) (stateOf (after p t) next)
+    unfolding written
+    steps-on =
+        let m = meets-after sources names p t ts w in
+        ap (stepFrom mode sources names (stateOf p at)) e
+        ∙ step-token p t h (fits-after t ts f .0) (m .0) k (eqb i 0) at (written (i + 1) (after p t) ts) (ends-next i (after p t) ts (m .1))
+
+    pub rest-on : drop next text ≡ written (i + 1) (after p t) ts
+    unfolding written
+    rest-on =
+        let b : List ℕ = bytesOf (eqb i 0) p t in
+        sym (drop-drop (length b) at text) ∙ ap (drop (length b)) e ∙ drop-append-seam b (written (i + 1) (after p t) ts)
+
+    -- its segment begins early enough, and the decoder passes on
+    module _ (early : Early text) (u : Passed mode sources names text (stateOf p at)) where
+      begins-early : beginOf i at p t < noSegment
+      begins-early =
+          early (beginOf i at p t)
+          (segment mode sources names text (stateOf p at) u (beginOf i at p t) next
+          (lies-put mode sources names text (stateOf p at) (bare t) (beginOf i at p t) (stateOf (after p t) next) steps-on))
+
+      pub passed-on : Passed mode sources names text (stateOf (after p t) next)
+      passed-on = λ _. closes mode sources names text (stateOf p at) (bare t) (beginOf i at p t) (stateOf (after p t) next) (sym steps-on)
+
+      pub run-on : (room : ℕ) → run mode sources names text i (suc room) (stateOf p at)
+          ≡ tokenThen (withSegment t (beginOf i at p t)) (run mode sources names text (i + 1) room (stateOf (after p t) next))
+      run-on room = run-put mode sources names text i (stateOf p at) (bare t) (beginOf i at p t) (stateOf (after p t) next) steps-on room begins-early
 
   pub run-back : (ts : List Token) (text : List ℕ) (room i at : ℕ) (p : TokenChunk) → Held p → fits32 (flat ts) ≡ true
       → Meets sources names p ts → takesFrom mode p ts ≡ true → length ts ≤ room
-      → drop at text ≡ written i p ts
-      → run mode sources names text room (stateOf p at) ≡ record { tokens = ts; code = Code.Done; offset = length text }
-  unfolding written
-  run-back [] text room i at p h f w k l e = run-end text room (stateOf p at) e
-  run-back (t ∷ ts) text zero i at p h f w k l e = absurd (not-suc-le-zero l)
-  run-back (t ∷ ts) text (suc room) i at p h f w k l e =
-      let b : List ℕ = bytesOf (eqb i 0) p t in
-      let r : List ℕ = written (i + 1) (after p t) ts in
+      → drop at text ≡ written i p ts → Early text → Passed mode sources names text (stateOf p at)
+      → run mode sources names text i room (stateOf p at) ≡ record { tokens = placed i at p ts; code = Code.Done; offset = length text }
+  unfolding placed written stepFrom
+  run-back [] text room i at p h f w k l e early u = run-done mode sources names text i room (stateOf p at) (ap (stepFrom mode sources names (stateOf p at)) e)
+  run-back (t ∷ ts) text zero i at p h f w k l e early u = absurd (not-suc-le-zero l)
+  run-back (t ∷ ts) text (suc room) i at p h f w k l e early u =
       let (f₁, f₂) = fits-after t ts f in
-      let (w₁, w₂) = meets-after sources names p t ts w in
       let (k₁, k₂) = takes-after p t ts k in
-      let d : drop (at + length b) text ≡ r = sym (drop-drop (length b) at text) ∙ ap (drop (length b)) e ∙ drop-append-seam b r in
-      run-put text room (stateOf p at) (stateOf (after p t) (at + length b)) t (at + length (lead (eqb i 0) (p .«prev_dst_line») (t .«dst_line»)))
-      (ap (stepFrom mode sources names (stateOf p at)) e ∙ step-token p t h f₁ w₁ k₁ (eqb i 0) at r (ends-next i (after p t) ts w₂))
-      ∙ ap (tokenThen t) (run-back ts text room (i + 1) (at + length b) (after p t) (held-after p t h f₁) f₂ w₂ k₂ (omega arith) d)
+      run-on text i at p t ts h f w k₁ e early u room
+      ∙ ap (tokenThen (withSegment t (beginOf i at p t)))
+      (run-back ts text room (i + 1) (at + length (bytesOf (eqb i 0) p t)) (after p t) (held-after p t h f₁) f₂ (meets-after sources names p t ts w .1) k₂ (omega arith)
+      (rest-on text i at p t ts h f w k₁ e) early (passed-on text i at p t ts h f w k₁ e early u))

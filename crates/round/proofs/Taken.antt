@@ -8,7 +8,8 @@ use lib.IntN.{pos, _+ℤ_}
 use lib.ListN.{length}
 use borrow.Author.Tests.{eqb-true, lt-ltb}
 use Rattle.code.specs.declared.Code.{Code}
-use Rattle.token.specs.Table.{noId, noSegment, token, withSegment, isNone}
+use Rattle.token.specs.Table.{noId, noSegment, token, isNone}
+use Rattle.token.proofs.Same.{bare}
 use Rattle.token.specs.declared.Token.{Token}
 use Rattle.token.specs.declared.TokenChunk.{TokenChunk}
 use Rattle.value.specs.Value.{valueOf, numberOf}
@@ -48,11 +49,7 @@ takes-cons : (mode : Mode) (v : ℕ) (vs : List ℕ) → takesEach mode (v ∷ v
 unfolding takesEach
 takes-cons mode v vs e = both-true (takes mode v) (takesEach mode vs) e
 
--- the token that a step gives: it does not say yet where its segment begins
-abbrev pub bare : Token → Token
-bare t = withSegment t noSegment
-
--- t from its numbers
+-- t from its numbers, as a step gives it: it does not say yet where its segment begins
 token-is : (t : Token) (c d e f : ℕ) → t .«src_line» ≡ c → t .«src_col» ≡ d → t .«source_id» ≡ e → t .«name_id» ≡ f
     → token (t .«dst_line») (t .«dst_col») c d e f noSegment ≡ bare t
 token-is t c d e f ec ed ee ef = rw (← ec, ← ed, ← ee, ← ef)

@@ -22,7 +22,7 @@ fn print_cell(x: u32, last: bool) {
 fn print_rows(numbers: &[u32]) {
     let mut i: usize = 0;
     while i < numbers.len() {
-        print_cell(numbers[i], i % 6 == 5);
+        print_cell(numbers[i], i % token::WIDTH == token::WIDTH - 1);
         i += 1;
     }
 }
@@ -142,17 +142,18 @@ fn fill(digits: &[u8], table: &mut [u32]) {
     }
 }
 
-// Unsorted, with equal columns, a token with a name and no source, and a name id past its list.
-fn inner_table() -> [u32; 42] {
-    let mut t = [0u32; 42];
-    fill(b"10a10-04k21000u30-04v40-2055-137x52932y621", &mut t);
+// Unsorted, with equal columns, a token with a name and no source, and a name id past its list. No segment begins where an outer
+// token's does, so that the result tells whose place it keeps.
+fn inner_table() -> [u32; 49] {
+    let mut t = [0u32; 49];
+    fill(b"10a10-n04k210o00u30-p04v40-q2055-1r37x529s32y621t", &mut t);
     t
 }
 
-fn outer_table() -> [u32; 78] {
-    let mut t = [0u32; 78];
+fn outer_table() -> [u32; 91] {
+    let mut t = [0u32; 91];
     fill(
-        b"0005010303030619000904750c37010f36010i20010l40040o88-110100214010-121004110002",
+        b"000501a030303b061900c090475d0c3701e0f3601f0i2001g0l4004h0o88-1i101002j14010--121004l110002m",
         &mut t,
     );
     t
@@ -164,7 +165,7 @@ fn maps() {
     let outer = outer_table();
     let outer_ends = [4usize, 9, 9, 14, 19];
     let inner_ends = [5usize, 9];
-    let mut result = [7u32; 86];
+    let mut result = [7u32; 100];
     let mut added = [77u32; 6];
     print_line(b"maps");
     run(
@@ -192,9 +193,9 @@ fn small(
     numbers: usize,
     room: usize,
 )
-    requires { ⌜ (numbers ≤ 6) × (room ≤ 2) ⌝ }
+    requires { ⌜ (numbers ≤ 7) × (room ≤ 2) ⌝ }
 {
-    let mut result = [7u32; 6];
+    let mut result = [7u32; 7];
     let mut added = [77u32; 2];
     print_line(label);
     run(
@@ -213,40 +214,40 @@ fn small(
 
 // A bad table, and every later test failing too.
 fn bad_tables() {
-    let outer = [0u32, 0, 0, 0, 0, 0];
-    let inner = [0u32, 0, 8, 9, 0, token::NONE];
+    let outer = [0u32, 0, 0, 0, 0, 0, 5];
+    let inner = [0u32, 0, 8, 9, 0, token::NONE, 6];
     let fall = [2usize, 1];
     let past = [3usize];
-    small(b"sources", &outer[..5], 2, &fall, &inner[..5], &past, 5, 0);
-    small(b"outer table", &outer[..5], 1, &fall, &inner, &past, 5, 0);
-    small(b"inner table", &outer, 1, &fall, &inner[..5], &past, 5, 0);
+    small(b"sources", &outer[..6], 2, &fall, &inner[..6], &past, 6, 0);
+    small(b"outer table", &outer[..6], 1, &fall, &inner, &past, 6, 0);
+    small(b"inner table", &outer, 1, &fall, &inner[..6], &past, 6, 0);
 }
 
 // A bad list, or too little room, and every later test failing too.
 fn bad_names() {
-    let outer = [0u32, 0, 0, 0, 0, 0];
+    let outer = [0u32, 0, 0, 0, 0, 0, 5];
     let inner = [0u32];
     let ends = [2usize];
     let fall = [2usize, 1];
     let past = [3usize];
-    small(b"outer names", &outer, 1, &fall, &inner[..0], &past, 5, 0);
-    small(b"inner names", &outer, 1, &ends, &inner[..0], &past, 5, 0);
-    small(b"full", &outer, 1, &ends, &inner[..0], &past[..0], 5, 0);
-    small(b"room", &outer, 1, &ends, &inner[..0], &past[..0], 6, 0);
+    small(b"outer names", &outer, 1, &fall, &inner[..0], &past, 6, 0);
+    small(b"inner names", &outer, 1, &ends, &inner[..0], &past, 6, 0);
+    small(b"full", &outer, 1, &ends, &inner[..0], &past[..0], 6, 0);
+    small(b"room", &outer, 1, &ends, &inner[..0], &past[..0], 7, 0);
 }
 
 // Equal names, and empty tables, lists and names.
 fn empties() {
-    let outer = [0u32, 0, 0, 0, 0, 0];
-    let inner = [0u32, 0, 8, 9, 0, token::NONE];
+    let outer = [0u32, 0, 0, 0, 0, 0, 5];
+    let inner = [0u32, 0, 8, 9, 0, token::NONE, 6];
     let all = [2usize];
     let none = [0usize];
     let both = [0usize, 2];
-    small(b"equal", &outer, 1, &all, &inner, &both, 6, 1);
-    small(b"empty", &outer, 1, &none, &inner, &both, 6, 1);
-    small(b"no names", &outer, 1, &all, &inner, &both[..0], 6, 2);
-    small(b"no inner", &outer, 1, &all, &inner[..0], &both, 6, 2);
-    small(b"no outer", &outer[..0], 0, &all, &inner, &both, 6, 2);
+    small(b"equal", &outer, 1, &all, &inner, &both, 7, 1);
+    small(b"empty", &outer, 1, &none, &inner, &both, 7, 1);
+    small(b"no names", &outer, 1, &all, &inner, &both[..0], 7, 2);
+    small(b"no inner", &outer, 1, &all, &inner[..0], &both, 7, 2);
+    small(b"no outer", &outer[..0], 0, &all, &inner, &both, 7, 2);
     small(
         b"nothing",
         &outer[..0],

@@ -30,7 +30,7 @@ fn ask(table: &[u32], line: u32, col: u32) {
 
 // Before, at, between and past the tokens of a line; equal columns; a line with none.
 fn sorted() {
-    let mut t = [0u32; 30];
+    let mut t = [0u32; 35];
     put(&mut t, 0, 0, 2);
     put(&mut t, 1, 0, 5);
     put(&mut t, 2, 1, 0);
@@ -49,7 +49,7 @@ fn sorted() {
 
 // Lines and columns that fall, and equal columns apart.
 fn unsorted() {
-    let mut t = [0u32; 36];
+    let mut t = [0u32; 42];
     put(&mut t, 0, 1, 7);
     put(&mut t, 1, 0, 1);
     put(&mut t, 2, 1, 3);
@@ -67,7 +67,7 @@ fn unsorted() {
 
 // The last position there is.
 fn largest() {
-    let mut t = [0u32; 6];
+    let mut t = [0u32; 7];
     put(&mut t, 0, 4294967295, 4294967295);
     ask(&t, 4294967295, 4294967294);
     ask(&t, 4294967295, 4294967295);
@@ -75,10 +75,10 @@ fn largest() {
 
 // No token, and lengths that are no table's.
 fn lengths() {
-    let t = [0u32; 7];
+    let t = [0u32; 8];
     ask(&t[0..0], 0, 0);
-    ask(&t[0..5], 0, 0);
     ask(&t[0..6], 0, 0);
+    ask(&t[0..7], 0, 0);
     ask(&t, 0, 0);
 }
 

@@ -45,21 +45,38 @@ fn run(table: &[u32], chunk: TokenChunk, out: &mut [u8]) -> TokenChunk {
 }
 
 fn main() {
-    let pair: [u32; 12] = [
+    let pair: [u32; 14] = [
         0,
         0,
         2,
         3,
         0,
         4294967295,
+        0,
         1,
         1,
         2,
         3,
         4294967295,
         4294967295,
+        5,
     ];
-    let twins: [u32; 12] = [0, 0, 0, 0, 0, 4294967295, 0, 0, 0, 0, 0, 4294967295];
+    let twins: [u32; 14] = [
+        0,
+        0,
+        0,
+        0,
+        0,
+        4294967295,
+        7,
+        0,
+        0,
+        0,
+        0,
+        0,
+        4294967295,
+        9,
+    ];
     let mut out = [0u8; 64];
     run(&pair, zeros(0, 2), &mut out);
     let cut = run(&pair, zeros(0, 1), &mut out);
@@ -72,6 +89,6 @@ fn main() {
     let mut six = [0u8; 6];
     run(&pair, zeros(0, 2), &mut six);
     run(&pair, zeros(2, 1), &mut out);
-    run(&pair[..11], zeros(0, 1), &mut out);
+    run(&pair[..12], zeros(0, 1), &mut out);
     run(&pair, after_line(1, 0, 2), &mut out);
 }

@@ -19,6 +19,9 @@ mul-print-cell c = search needs
 shared-slice-read-print-cell : tie.Need-shared-slice-read-print-cell Inv-loop μ-loop
 shared-slice-read-print-cell c = search needs
 
+sub-print-cell : tie.Need-sub-print-cell Inv-loop μ-loop
+sub-print-cell c = search needs
+
 print-cell-requires : tie.Need-print-cell-requires Inv-loop μ-loop
 print-cell-requires c κs = search needs
 
@@ -43,6 +46,7 @@ print-rows-spec =
     loop-holds
     mul-print-cell
     shared-slice-read-print-cell
+    sub-print-cell
     print-cell-requires
     add-i
     loop-less

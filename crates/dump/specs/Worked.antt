@@ -9,7 +9,7 @@ use Rattle.segment.specs.Segment.{fieldsFrom, wideFrom}
 use Rattle.sums.specs.Sums.{reducedOf, sumOf, idOf, nameSumOf}
 use Rattle.apply.specs.Apply.{columned, mapped, named, four, five, counted, applied}
 use Rattle.step.specs.Step.{offsetOf, segmentStep, stepFrom}
-use Rattle.decode.specs.Mapping.{run}
+use Rattle.decode.specs.Mapping.{stepThen, run}
 use Rattle.decimal.specs.Decimal.{figuresIn}
 use Rattle.first_line.specs.Reading.{isFigure, endedAt, numberFrom}
 use Rattle.lines.specs.Lines.{line, idText, tokenLine, tokenLines, countLine, endLine}
@@ -45,5 +45,5 @@ Each [] = Unit {0}
 Each (r ∷ rs) = (rendered (r .input) ≡ r .printed) × Each rs
 
 pub worked-inputs : Each worked
-unfolding digitOf isDelim valueOf digitsFrom vlqOf fieldsFrom wideFrom reducedOf sumOf idOf nameSumOf columned mapped named four five counted applied offsetOf segmentStep stepFrom run figuresIn isFigure endedAt numberFrom line idText tokenLine tokenLines countLine endLine report rendered
+unfolding digitOf isDelim valueOf digitsFrom vlqOf fieldsFrom wideFrom reducedOf sumOf idOf nameSumOf columned mapped named four five counted applied offsetOf segmentStep stepFrom stepThen run figuresIn isFigure endedAt numberFrom line idText tokenLine tokenLines countLine endLine report rendered
 worked-inputs = (refl, (refl, (refl, (refl, (refl, (refl, tt))))))

@@ -15,8 +15,10 @@ use Rattle.vlq.specs.Runs.{ByTheStandard}
 use Rattle.vlq.proofs.Runs as runs
 use Rattle.decode.specs.Mapping.{Decodes}
 use Rattle.decode.specs.Where.{Located}
+use Rattle.decode.specs.Behind.{SegmentBehind}
 use Rattle.decode.proofs.Unique as decode
 use Rattle.decode.proofs.Where as fault
+use Rattle.decode.proofs.Behind as behind
 use Rattle.exact.specs.Exact.{NothingLost, OneReading}
 use Rattle.exact.proofs.Exact as exact
 use Rattle.exact.proofs.OneReading as reading
@@ -59,6 +61,11 @@ one-decode mode sources names text table r s x y a b =
 -- the tokens that are kept
 pub fault-located : Located
 fault-located = fault.located
+
+-- of every token of every decode, done or refused: the bytes of the text from its seventh number on, up to the next delimiter or the
+-- end, are the segment that gave it
+pub segment-behind : SegmentBehind
+segment-behind = behind.behind
 
 -- pgk_encode
 pub one-encode : (table : List ℕ) (c : TokenChunk) (out : List ℕ) (r s : EncodedOut) (x y : List ℕ)
@@ -131,8 +138,9 @@ one-reading = reading.one-reading
 pub chunks-join : ChunksJoin
 chunks-join = round.chunks-join
 
--- a table that meets the premises, written whole, or in any chunks, and decoded is itself again: in lenient mode, and in checked mode
--- exactly where that takes every value that is written; else checked mode refuses it for the first that it does not take
+-- a table that meets the premises, written whole, or in any chunks, and decoded is itself again in the first six numbers of each token,
+-- where every segment of the text begins below 4,294,967,295: in lenient mode, and in checked mode exactly where that takes every value
+-- that is written; else checked mode refuses it for the first that it does not take
 pub write-and-read : WriteAndRead
 write-and-read = round.write-and-read
 
@@ -147,6 +155,6 @@ surely-reads-back = round.surely-reads-back
 pub surely-in-both : SurelyInBoth
 surely-in-both = round.surely-in-both
 
--- two different tables never make the same text, each cut as it likes
+-- two tables that differ in the first six numbers of a token never make the same text, each cut as it likes, wherever its segments begin
 pub one-text : OneText
 one-text = round.one-text

@@ -57,7 +57,7 @@ fn zeros() -> TokenChunk {
     }
 }
 
-fn fill(wide: bool, table: &mut [u32; 144]) {
+fn fill(wide: bool, table: &mut [u32; 168]) {
     let mut i: usize = 0;
     while i < 24 {
         token::put_token(table, i, token_of(wide, i as u32));
@@ -103,9 +103,9 @@ fn write_in_chunks(table: &[u32], size: u32, out: &mut [u8]) -> usize {
     at
 }
 
-fn same(a: &[u32; 144], b: &[u32; 144]) -> bool {
+fn same(a: &[u32; 168], b: &[u32; 168]) -> bool {
     let mut i: usize = 0;
-    while i < 144 {
+    while i < 168 {
         if a[i] != b[i] {
             return false;
         }
@@ -122,8 +122,8 @@ fn print_yes(yes: bool) {
     }
 }
 
-fn read_back(text: &[u8], table: &[u32; 144], checked: bool) -> bool {
-    let mut back = [7u32; 144];
+fn read_back(text: &[u8], table: &[u32; 168], checked: bool) -> bool {
+    let mut back = [7u32; 168];
     if checked {
         decode::decode_checked(text, 5, 1000, &mut back);
     } else {
@@ -133,14 +133,14 @@ fn read_back(text: &[u8], table: &[u32; 144], checked: bool) -> bool {
 }
 
 // The first n bytes, decoded in both modes.
-fn print_both(out: &[u8], n: usize, table: &[u32; 144]) {
+fn print_both(out: &[u8], n: usize, table: &[u32; 168]) {
     if n <= out.len() {
         print_yes(read_back(&out[..n], table, false));
         print_yes(read_back(&out[..n], table, true));
     }
 }
 
-fn print_run(size: u32, table: &[u32; 144], whole: usize, out: &mut [u8]) {
+fn print_run(size: u32, table: &[u32; 168], whole: usize, out: &mut [u8]) {
     let n = write_in_chunks(table, size, out);
     io::print_decimal(1, size as u64);
     print_yes(n == whole);
@@ -148,7 +148,7 @@ fn print_run(size: u32, table: &[u32; 144], whole: usize, out: &mut [u8]) {
     io::write_all(1, b"\n");
 }
 
-fn print_sizes(table: &[u32; 144], whole: usize, out: &mut [u8]) {
+fn print_sizes(table: &[u32; 168], whole: usize, out: &mut [u8]) {
     let mut size: u32 = 0;
     while size < 24 {
         size += 1;
@@ -156,7 +156,7 @@ fn print_sizes(table: &[u32; 144], whole: usize, out: &mut [u8]) {
     }
 }
 
-fn run_all(table: &[u32; 144], out: &mut [u8]) {
+fn run_all(table: &[u32; 168], out: &mut [u8]) {
     io::write_all(1, b"premises");
     print_yes(premises::meets_premises(table, 5, 1000));
     print_yes(checked_premises::meets_checked_premises(table, 5, 1000));
@@ -168,7 +168,7 @@ fn run_all(table: &[u32; 144], out: &mut [u8]) {
 }
 
 fn main() {
-    let mut table = [0u32; 144];
+    let mut table = [0u32; 168];
     let mut out = [0u8; 4096];
     fill(true, &mut table);
     run_all(&table, &mut out);

@@ -90,5 +90,6 @@ fn main() {
     row(b"A,!", 0, 0);
     row(b"!A", 0, 0);
     row(b"A,A,AAAA", 1, 0);
+    row(b",,A;;A", 0, 0);
     row(b"AAEG;C", 1, 0);
 }

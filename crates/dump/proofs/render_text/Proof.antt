@@ -22,16 +22,16 @@ slice-aggregate-put-tokens : tie.Need-slice-aggregate-put-tokens
 slice-aggregate-put-tokens c = search needs
 
 put-tokens-requires : tie.Need-put-tokens-requires
-put-tokens-requires c κs = (written-fit _ _ _ _ _ _ _ (c .before .before .before .before .before .before .before .decode-lenient .ensures), tokens-fit _ _ _ _ (ap places (length-replicate {A = ℕ} 6144 0)) _ _ (c .before .before .before .before .before .before .before .decode-lenient .ensures) (c .before .before .before .before .before .before .before .before .before .before .before .args .out .now) (c .before .before .before .before .before .before .before .before .before .before .before .pre) _ _ (c .before .before .before .before .put-count .ensures))
+put-tokens-requires c κs = (written-fit _ _ _ _ _ _ _ (c .before .before .before .before .before .before .before .decode-lenient .ensures), tokens-fit _ _ _ _ (ap places (length-replicate {A = ℕ} 7168 0)) _ _ (c .before .before .before .before .before .before .before .decode-lenient .ensures) (c .before .before .before .before .before .before .before .before .before .before .before .args .out .now) (c .before .before .before .before .before .before .before .before .before .before .before .pre) _ _ (c .before .before .before .before .put-count .ensures))
 
 put-end-requires : tie.Need-put-end-requires
-put-end-requires c κs = end-fits _ _ _ _ (ap places (length-replicate {A = ℕ} 6144 0)) _ _ (c .before .before .before .before .before .before .before .before .before .before .before .decode-lenient .ensures) (c .before .before .before .before .before .before .before .before .before .before .before .before .before .before .before .args .out .now) (c .before .before .before .before .before .before .before .before .before .before .before .before .before .before .before .pre) _ _ (c .before .before .before .before .before .before .before .before .put-count .ensures) _ _ (c .before .before .before .put-tokens .ensures)
+put-end-requires c κs = end-fits _ _ _ _ (ap places (length-replicate {A = ℕ} 7168 0)) _ _ (c .before .before .before .before .before .before .before .before .before .before .before .decode-lenient .ensures) (c .before .before .before .before .before .before .before .before .before .before .before .before .before .before .before .args .out .now) (c .before .before .before .before .before .before .before .before .before .before .before .before .before .before .before .pre) _ _ (c .before .before .before .before .before .before .before .before .put-count .ensures) _ _ (c .before .before .before .put-tokens .ensures)
 
 same-length : tie.Need-same-length
 same-length c = search needs
 
 returns : tie.Need-returns
-returns c = reported _ _ _ _ (ap places (length-replicate {A = ℕ} 6144 0)) _ _ (c .before .before .before .before .before .before .before .before .before .before .before .before .before .before .decode-lenient .ensures) (c .before .before .before .before .before .before .before .before .before .before .before .before .before .before .before .before .before .before .args .out .now) (c .before .before .before .before .before .before .before .before .before .before .before .before .before .before .before .before .before .before .pre) _ _ (c .before .before .before .before .before .before .before .before .before .before .before .put-count .ensures) _ _ (c .before .before .before .before .before .before .put-tokens .ensures) _ _ (c .before .before .put-end .ensures)
+returns c = reported _ _ _ _ (ap places (length-replicate {A = ℕ} 7168 0)) _ _ (c .before .before .before .before .before .before .before .before .before .before .before .before .before .before .decode-lenient .ensures) (c .before .before .before .before .before .before .before .before .before .before .before .before .before .before .before .before .before .before .args .out .now) (c .before .before .before .before .before .before .before .before .before .before .before .before .before .before .before .before .before .before .pre) _ _ (c .before .before .before .before .before .before .before .before .before .before .before .put-count .ensures) _ _ (c .before .before .before .before .before .before .put-tokens .ensures) _ _ (c .before .before .put-end .ensures)
 
 pub render-text-spec : {M : Type 1} → statement M
 render-text-spec =

@@ -25,6 +25,7 @@ fn token_of(wide: bool, i: u32) -> Token {
             src_col: col_of(wide, k),
             source_id: token::NONE,
             name_id: token::NONE,
+            segment: token::NONE,
         };
     }
     Token {
@@ -34,6 +35,7 @@ fn token_of(wide: bool, i: u32) -> Token {
         src_col: col_of(wide, k),
         source_id: k % 5,
         name_id: name_of(k),
+        segment: k,
     }
 }
 
@@ -103,10 +105,18 @@ fn write_in_chunks(table: &[u32], size: u32, out: &mut [u8]) -> usize {
     at
 }
 
+// Whether two numbers of tables differ that stand at one place; where a segment begins is not compared.
+fn differ(i: usize, a: u32, b: u32) -> bool {
+    if i % token::WIDTH == 6 {
+        return false;
+    }
+    a != b
+}
+
 fn same(a: &[u32; 168], b: &[u32; 168]) -> bool {
     let mut i: usize = 0;
     while i < 168 {
-        if a[i] != b[i] {
+        if differ(i, a[i], b[i]) {
             return false;
         }
         i += 1;

@@ -5,10 +5,10 @@ use Rattle.round_run.proofs.same.Statement.{statement}
 use Rattle.round_run.proofs.same.Tie as tie
 
 abbrev Inv-loop : tie.InvT-loop
-Inv-loop a b i₀ i = i ≤ 144
+Inv-loop a b i₀ i = i ≤ 168
 
 abbrev μ-loop : tie.MeasureT-loop
-μ-loop a b i₀ i = 144 - i
+μ-loop a b i₀ i = 168 - i
 
 loop-holds : tie.Need-loop-holds Inv-loop μ-loop
 loop-holds c = search needs

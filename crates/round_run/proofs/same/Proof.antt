@@ -13,17 +13,20 @@ abbrev μ-loop : tie.MeasureT-loop
 loop-holds : tie.Need-loop-holds Inv-loop μ-loop
 loop-holds c = search needs
 
-mul-if1 : tie.Need-mul-if1 Inv-loop μ-loop
-mul-if1 c = search needs
+mul-differ : tie.Need-mul-differ Inv-loop μ-loop
+mul-differ c = search needs
 
-element-copy-out-if1 : tie.Need-element-copy-out-if1 Inv-loop μ-loop
-element-copy-out-if1 c = search needs
+element-copy-out-differ : tie.Need-element-copy-out-differ Inv-loop μ-loop
+element-copy-out-differ c = search needs
 
-mul-if1-2 : tie.Need-mul-if1-2 Inv-loop μ-loop
-mul-if1-2 c = search needs
+mul-differ-2 : tie.Need-mul-differ-2 Inv-loop μ-loop
+mul-differ-2 c = search needs
 
-element-copy-out-if1-2 : tie.Need-element-copy-out-if1-2 Inv-loop μ-loop
-element-copy-out-if1-2 c = search needs
+element-copy-out-differ-2 : tie.Need-element-copy-out-differ-2 Inv-loop μ-loop
+element-copy-out-differ-2 c = search needs
+
+differ-requires : tie.Need-differ-requires Inv-loop μ-loop
+differ-requires c κs = search needs
 
 returns : tie.Need-returns Inv-loop μ-loop
 returns c = search needs
@@ -47,10 +50,11 @@ same-spec =
     Inv-loop
     μ-loop
     loop-holds
-    mul-if1
-    element-copy-out-if1
-    mul-if1-2
-    element-copy-out-if1-2
+    mul-differ
+    element-copy-out-differ
+    mul-differ-2
+    element-copy-out-differ-2
+    differ-requires
     returns
     add-i
     loop-less

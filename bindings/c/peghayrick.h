@@ -31,6 +31,8 @@
  * It is an offset into the text that the token was decoded from, and no table says which that was. Joined
  * tables hold offsets into the text of each part, a composed one into the outer map's text, and none of them
  * into the text that pgk_encode writes. Keep those texts, and which part a token is of, to point into them.
+ * What is written and read again has the same tokens but for the segments, so compare without them: a token
+ * by its first offsetof(pgk_token, segment) bytes.
  *
  * Answers. Each answer has a code; 0 is done, pgk_words has a sentence for each. A refused decode keeps
  * the tokens before the refused segment; every other refusal writes nothing. Look at the code first: the

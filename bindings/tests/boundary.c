@@ -106,7 +106,7 @@ static int in_place(const uint32_t *table, size_t tokens, const char *text, size
 /* Whether two tables have the same tokens, each token's segment aside. */
 static int same_tokens(const uint32_t *a, const uint32_t *b, size_t tokens) {
     int ok = 1;
-    for (size_t t = 0; t < tokens; t++) ok &= memcmp(a + W * t, b + W * t, 24) == 0;
+    for (size_t t = 0; t < tokens; t++) ok &= memcmp(a + W * t, b + W * t, offsetof(pgk_token, segment)) == 0;
     return ok;
 }
 
@@ -906,7 +906,7 @@ static void late(void) {
         _exit(!same_decoded(d, rows[i].want) || table[6] != rows[i].segment);
     }
     for (size_t i = 0; i < TEXTS; i++) {
-        int status;
+        int status = 1;
         check(waitpid(child[i], &status, 0) == child[i] && status == 0, rows[i].what);
     }
     munmap(text, most);

@@ -1,4 +1,4 @@
-/* Peghayrick 0.5.0: the mapping core of source maps, for C99 and later and C++11 and later.
+/* Peghayrick 0.6.0: the mapping core of source maps, for C99 and later and C++11 and later.
  *
  * Link with libpeghayrick.a (x86-64 Linux). The archive needs one symbol from outside, memset.
  *
@@ -17,13 +17,22 @@
  * Positions. Lines and columns count from 0, so a screen that counts from 1 adds 1 to both. Columns count
  * UTF-16 units, as bundlers write them: they are neither bytes nor characters.
  *
- * Tables. A table is a list of uint32_t, PGK_WIDTH (six) a token, in the order of pgk_token; it needs no
- * more than the alignment of uint32_t. PGK_NONE as an id means none. A token without a source carries a
- * source line and column all the same: they say nothing of it and must not be shown. Test source_id first.
- * A table that is read must have a multiple of six numbers and at most 4294967294 tokens: hand in the
- * tokens that were written and no more. A table that is written has places for its length divided by six,
- * rounded down, and the one to five numbers past them are kept. One token for each ',' and ';' of a text
- * and one more are always enough to decode it; pgk_table_size counts what it needs.
+ * Tables. A table is a list of uint32_t, PGK_WIDTH a token, in the order of pgk_token; it needs no more than
+ * the alignment of uint32_t. PGK_NONE as an id means none. A token without a source carries a source line and
+ * column all the same: they say nothing of it and must not be shown. Test source_id first.
+ * A table that is read must have a multiple of PGK_WIDTH numbers and at most 4294967294 tokens: hand in the
+ * tokens that were written and no more. A table that is written has places for its length divided by
+ * PGK_WIDTH, rounded down, and the numbers past them are kept. One token for each ',' and ';' of a text and
+ * one more are always enough to decode it; pgk_table_size counts what it needs.
+ *
+ * Segments. A token's segment says which piece of text gave it: the bytes from that offset on, up to the next
+ * ',' or ';' or the text's end. PGK_NONE means none. Decoding sets it, translating keeps it, composing takes
+ * the outer token's; the writer, the lookup and the premises pass it over, and on input it may be any number.
+ * It is an offset into the text that the token was decoded from, and no table says which that was. Joined
+ * tables hold offsets into the text of each part, a composed one into the outer map's text, and none of them
+ * into the text that pgk_encode writes. Keep those texts, and which part a token is of, to point into them.
+ * What is written and read again has the same tokens but for the segments, so compare without them: a token
+ * by its first offsetof(pgk_token, segment) bytes.
  *
  * Answers. Each answer has a code; 0 is done, pgk_words has a sentence for each. A refused decode keeps
  * the tokens before the refused segment; every other refusal writes nothing. Look at the code first: the
@@ -44,14 +53,14 @@ extern "C" {
 #endif
 
 /* The version of this header: major * 1000000 + minor * 1000 + patch. pgk_version() has that of the archive. */
-#define PGK_VERSION 5000u
-#define PGK_VERSION_TEXT "0.5.0"
+#define PGK_VERSION 6000u
+#define PGK_VERSION_TEXT "0.6.0"
 
-/* As an id: none. */
+/* As an id or a segment: none. */
 #define PGK_NONE 4294967295u
 
 /* How many numbers a token has in a table. */
-#define PGK_WIDTH 6u
+#define PGK_WIDTH 7u
 
 /* Codes, and the number that comes with each; where none is named it is 0. */
 #define PGK_DONE 0u
@@ -66,11 +75,12 @@ extern "C" {
 #define PGK_LINE_GOES_BACK 9u        /* index of the first such token */
 #define PGK_BAD_CHUNK 10u            /* not start <= end <= token count */
 #define PGK_BAD_TABLE 11u            /* not whole tokens, or too many */
-#define PGK_TOO_BIG 12u              /* index of the first such token */
+#define PGK_TOO_BIG 12u              /* index of the first such token, in decoding too */
 #define PGK_MORE_THAN_ONE_SOURCE 13u
 #define PGK_BAD_NAMES 14u
 
-typedef struct { uint32_t dst_line, dst_col, src_line, src_col, source_id, name_id; } pgk_token;
+/* segment: where the token's segment begins, a byte of the text that it was decoded from, or PGK_NONE. */
+typedef struct { uint32_t dst_line, dst_col, src_line, src_col, source_id, name_id, segment; } pgk_token;
 
 /* Tokens start to end (end not included) of a table, and the numbers that the first is written against. */
 typedef struct { uint32_t start, end, prev_dst_line, prev_dst_col, prev_src_line, prev_src_col, prev_name_id, prev_source_id; } pgk_chunk;
@@ -82,6 +92,7 @@ typedef struct { uint64_t code, number; } pgk_answer;
  *   PGK_VLQ_OVERFLOW           the fourteenth digit
  *   PGK_BAD_SEGMENT_SIZE       the first digit of the field (number 0), or of the segment (a wrong count)
  *   PGK_BAD_SOURCE_REFERENCE, PGK_BAD_NAME_REFERENCE, PGK_WIDE_VALUE   the first digit of the field
+ *   PGK_TOO_BIG                the first digit of the segment that begins too late
  *   PGK_TABLE_FULL             the first digit of the segment that has no place
  * The refused segment begins behind the last ',' or ';' before the offset, or with the text where there is none;
  * what stands before it gives the tokens that were written. */
@@ -111,8 +122,8 @@ static inline const char *pgk_words(uint64_t code) {
         "there is too little room: lend as many places as the number says and call again",
         "a token is on a line below that of the token before it: sort the tokens by generated line, or begin the chunk with the state that the chunk before it returned",
         "the chunk does not lie within the table: its start must be at most its end, and its end at most the number of tokens",
-        "the table does not hold whole tokens, or holds more than 4294967294: hand in six numbers a token, and only the tokens that were written",
-        "a line or an id would become too large, and nothing was moved: use smaller offsets, or join fewer maps",
+        "the table does not hold whole tokens, or holds more than 4294967294: hand in WIDTH numbers a token, and only the tokens that were written",
+        "a line or an id would become too large, or a segment begins at byte 4294967295 or later: to translate, use smaller offsets or join fewer maps (nothing was moved); to decode, build the bundle in parts, each with its own map",
         "the outer map has more than one source: compose only a map of a single input with that input's map",
         "a name list is broken: its ends must not fall, the last must lie within the text, and at most 2147483647 names are taken",
         "the code is unknown: link the libpeghayrick.a that belongs to this version"
@@ -146,6 +157,8 @@ size_t pgk_table_size(const uint8_t *text, size_t text_len);
  *   PGK_BAD_SEGMENT_SIZE                 a column or line below 0, or not 1, 4 or 5 fields
  *   PGK_BAD_SOURCE_REFERENCE             the source id is below 0 or not below sources
  *   PGK_BAD_NAME_REFERENCE               the name id is not below names
+ *   PGK_TOO_BIG                          the segment is good, and begins at byte 4294967295 or later, where no token can
+ *                                        say so; the number is its token's index, so how many tokens are before it
  *   PGK_TABLE_FULL                       the segment is good, and no place is left
  * PGK_WIDE_VALUE has a second place, where a sum is kept: a column or line of 2^32 or more, a name id of 2^32 or more or
  * below 0. A refused map must not be looked up, though the tokens before the refused segment are in the table. The
@@ -163,7 +176,7 @@ pgk_decoded pgk_decode_lenient(const uint8_t *text, size_t text_len, uint32_t so
 
 /* Writes a chunk of a table as mappings text. The first chunk is pgk_first_chunk(end); for the next, take next and
  * set its end. A text that was decoded comes back without the ';' at its end, and without empty segments: no token
- * tells of them. Refusals, in this order:
+ * tells of them. The segment of a token is not read. Refusals, in this order:
  *   PGK_BAD_TABLE
  *   PGK_BAD_CHUNK        not start <= end <= token count
  *   PGK_LINE_GOES_BACK   a token of the chunk is on a line below the one before it (the first: below prev_dst_line)
@@ -172,11 +185,11 @@ pgk_decoded pgk_decode_lenient(const uint8_t *text, size_t text_len, uint32_t so
  * advances, the call need not count the bytes first, and is quicker by a third. */
 pgk_encoded pgk_encode(const uint32_t *table, size_t table_len, pgk_chunk chunk, uint8_t *out, size_t out_len);
 
-/* 1 where what pgk_encode writes of the whole table surely reads back (pgk_decode_lenient, these counts) as that table,
- * else 0, also for a bad table: lines do not go back, ids are PGK_NONE or below their counts, no name stands
- * without a source, and a token without a source repeats the source position of the latest token with one
- * (0, 0 before any). A table that was decoded by these counts should, unless its text has 2^32 ';' or gives more
- * than 4294967294 tokens: that is no theorem, so ask. One that was made, translated or composed need not. */
+/* 1 where what pgk_encode writes of the whole table surely reads back (pgk_decode_lenient, these counts) as that table but
+ * for the segments, else 0, also for a bad table: lines do not go back, ids are PGK_NONE or below their counts, no name
+ * stands without a source, and a token without a source repeats the source position of the latest token with one
+ * (0, 0 before any). A table that was decoded by these counts should: that is no theorem, so ask. One that was made,
+ * translated or composed need not. Of more than 4294967295 bytes nothing is said: there PGK_TOO_BIG may be the answer. */
 uint64_t pgk_meets_premises(const uint32_t *table, size_t table_len, uint32_t sources, uint32_t names);
 
 /* 1 where it surely reads back in checked mode too, by pgk_decode, else 0, also for a bad table: pgk_meets_premises says
@@ -187,7 +200,8 @@ uint64_t pgk_meets_premises(const uint32_t *table, size_t table_len, uint32_t so
  * step of -2^31 too, from minus zero. */
 uint64_t pgk_meets_checked_premises(const uint32_t *table, size_t table_len, uint32_t sources, uint32_t names);
 
-/* Adds line_offset to each generated line, and the other offsets to each id other than PGK_NONE. Refusals:
+/* Adds line_offset to each generated line, and the other offsets to each id other than PGK_NONE. Each segment is kept: it
+ * is an offset into the text that this table was decoded from, also behind the tokens of other texts. Refusals:
  *   PGK_BAD_TABLE
  *   PGK_TOO_BIG   a line would pass 4294967295, or an id would reach it */
 pgk_answer pgk_translate(uint32_t *table, size_t table_len, uint32_t line_offset, uint32_t source_offset, uint32_t name_offset);
@@ -198,7 +212,7 @@ pgk_answer pgk_translate_tokens(pgk_token *tokens, size_t count, uint32_t line_o
 /* The token at a generated position: among those on the line with a column at most col, the largest
  * column; among equals, the latest. The number is its index, or 4294967295 (PGK_NONE) if there is none.
  * The token found may have no source: then there is no source position to show.
- * The table may be in any order. Hand in the written part only, six numbers a token: places past it would be
+ * The table may be in any order. Hand in the written part only, PGK_WIDTH numbers a token: places past it would be
  * found too. Cost: each lookup reads the line of every token, 0.4 to 1.2 ns each. Refusal: PGK_BAD_TABLE. */
 pgk_answer pgk_lookup(const uint32_t *table, size_t table_len, uint32_t line, uint32_t col);
 
@@ -206,7 +220,8 @@ pgk_answer pgk_lookup(const uint32_t *table, size_t table_len, uint32_t line, ui
  *
  * Composes two maps: outer, from generated to intermediate code, and inner, from there to the source.
  * One result token is written for each outer token. Its name id counts the inner names, then the added ones:
- * added takes, in order, the ids of the outer names that were added. Refusals, in this order:
+ * added takes, in order, the ids of the outer names that were added. Its segment is the outer token's, also where it is
+ * left without a source: an offset into the text of outer, and never into that of inner. Refusals, in this order:
  *   PGK_MORE_THAN_ONE_SOURCE   outer_sources is above 1
  *   PGK_BAD_TABLE              outer, then inner
  *   PGK_BAD_NAMES              outer, then inner: ends that fall, a last end past the text, more than 2147483647 names

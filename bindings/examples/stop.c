@@ -1,5 +1,6 @@
 /* What the controller does when a run stops: decode the protocol's map, look up the stop position,
- * print the source step. A damaged map is refused with a message that says what to do.
+ * print the source step and the piece of the map that says so. A damaged map is refused with a message
+ * that says what to do.
  *
  *     stop MAP LINE COLUMN
  *
@@ -47,6 +48,19 @@ static char *whole(const char *path, size_t *len) {
     return bytes;
 }
 
+/* Prints the line of mappings that a segment stands in, from ';' to ';', and marks the segment under it. Each byte takes one place:
+ * one that cannot be shown is printed as '?'. */
+static void show(const char *text, size_t len, size_t segment) {
+    size_t begin = segment, end = segment;
+    while (begin > 0 && text[begin - 1] != ';') begin--;
+    printf("mappings  ");
+    for (size_t i = begin; i < len && text[i] != ';'; i++) putchar(text[i] > ' ' && text[i] <= '~' ? text[i] : '?');
+    printf("\n          ");
+    for (; begin < segment; begin++) putchar(' ');
+    for (; end < len && text[end] != ',' && text[end] != ';'; end++) putchar('^');
+    printf("\n");
+}
+
 /* Prints the step of the map, which has len bytes. */
 static int step(const char *map, size_t len, uint32_t line, uint32_t col) {
     uint32_t sources, names;
@@ -78,7 +92,7 @@ static int step(const char *map, size_t len, uint32_t line, uint32_t col) {
         free(table);
         return 2;
     }
-    pgk_token t = { 0, 0, 0, 0, PGK_NONE, PGK_NONE };
+    pgk_token t = { 0, 0, 0, 0, PGK_NONE, PGK_NONE, PGK_NONE };
     if (a.number != PGK_NONE) memcpy(&t, table + PGK_WIDTH * a.number, sizeof t);
     free(table);
     if (t.source_id == PGK_NONE) {   /* its source line and column say nothing */
@@ -88,6 +102,7 @@ static int step(const char *map, size_t len, uint32_t line, uint32_t col) {
     printf("stop %u:%u is at source %u, line %u, column %u", line, col, t.source_id, t.src_line, t.src_col);
     if (t.name_id != PGK_NONE) printf(", name %u", t.name_id);
     printf("\n");
+    show(text, len, t.segment);
     return 0;
 }
 

@@ -1,5 +1,5 @@
 //! What the controller does when a run stops: decode the protocol's map, look up the stop position, print the
-//! source step. A damaged map is refused with a message that says what to do.
+//! source step and the piece of the map that says so. A damaged map is refused with a message that says what to do.
 //!
 //! ```text
 //! stop MAP LINE COLUMN
@@ -24,8 +24,20 @@ fn parts(map: &[u8]) -> Option<(u32, u32, &[u8])> {
     Some((number(sources)?, number(names)?, &map[end + 1..]))
 }
 
-/// The token at the stop position, if it has a source: without one, its source line and column say nothing.
-fn step(map: &[u8], line: u32, col: u32) -> Result<Option<Token>, String> {
+/// The line of mappings that a segment stands in, from `;` to `;`, and the segment marked under it. Each byte takes one place:
+/// one that cannot be shown is `?`.
+fn marked(mappings: &[u8], segment: usize) -> String {
+    let (before, after) = mappings.split_at(segment);
+    let indent = before.iter().rev().take_while(|&&b| b != b';').count();
+    let length = after.iter().take_while(|b| !b",;".contains(b)).count();
+    let line = mappings[segment - indent..].iter().take_while(|&&b| b != b';');
+    let line: String = line.map(|&b| if b.is_ascii_graphic() { char::from(b) } else { '?' }).collect();
+    format!("mappings  {line}\n          {}{}", " ".repeat(indent), "^".repeat(length))
+}
+
+/// The token at the stop position, if it has a source: without one, its source line and column say nothing. And its segment,
+/// marked.
+fn step(map: &[u8], line: u32, col: u32) -> Result<Option<(Token, String)>, String> {
     let (sources, names, mappings) = parts(map).ok_or("the map has no counts on its first line: export it again")?;
     let mut table = vec![0u32; table_size(mappings)];
     // The decode that names no mode is checked: no position that loses bits comes to the screen.
@@ -36,7 +48,7 @@ fn step(map: &[u8], line: u32, col: u32) -> Result<Option<Token>, String> {
     })?;
     let token = lookup_token(written(&table, decoded.tokens), line, col)
         .map_err(|refusal| format!("the lookup is refused: {} (code {})", refusal.words(), refusal.code()))?;
-    Ok(token.filter(|t| t.get_source_id().is_some()))
+    Ok(token.filter(|t| t.get_source_id().is_some()).map(|t| (t, marked(mappings, t.segment as usize))))
 }
 
 fn main() -> ExitCode {
@@ -58,12 +70,12 @@ fn main() -> ExitCode {
         return ExitCode::from(2);
     };
     match step(&map, line, col) {
-        Ok(Some(t)) => {
+        Ok(Some((t, marked))) => {
             print!("stop {line}:{col} is at source {}, line {}, column {}", t.source_id, t.src_line, t.src_col);
             if let Some(name) = t.get_name_id() {
                 print!(", name {name}");
             }
-            println!();
+            println!("\n{marked}");
             ExitCode::SUCCESS
         }
         Ok(None) => {

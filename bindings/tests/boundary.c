@@ -1,17 +1,20 @@
 /* The boundary, tested from C as an attacker would: lent memory flush with guard pages, read-only where the
  * library only reads, aligned to four bytes only, of length 0, and full of what the library must not touch.
  *
- *     boundary ROUNDS
+ *     boundary ROUNDS [long]
  *
+ * long: texts of 4 GiB too, by a piece that is mapped many times; some seconds.
  * A read or write outside the lent memory ends the program by a signal. */
 #define _GNU_SOURCE
 #include <stdio.h>
 #include <stdlib.h>
 #include <string.h>
 #include <sys/mman.h>
+#include <sys/wait.h>
+#include <unistd.h>
 #include "peghayrick.h"
 
-enum { PAGE = 4096, PEN = 2 * PAGE, MARK = 0xA5 };
+enum { PAGE = 4096, PEN = 2 * PAGE, MARK = 0xA5, W = PGK_WIDTH };
 
 static unsigned passed, failed;
 
@@ -86,7 +89,28 @@ static int same_decoded(pgk_decoded a, pgk_decoded b) {
     return a.code == b.code && a.number == b.number && a.tokens == b.tokens && a.offset == b.offset;
 }
 
-/* One text in every placement: one answer, no trace outside, the table past the tokens kept. */
+/* Whether a segment begins at this byte, by the rule. */
+static int begins(const char *text, size_t i) {
+    return text[i] != ',' && text[i] != ';' && (i == 0 || text[i - 1] == ',' || text[i - 1] == ';');
+}
+
+/* Whether each token says where its segment begins. */
+static int in_place(const uint32_t *table, size_t tokens, const char *text, size_t len) {
+    size_t t = 0;
+    int ok = 1;
+    for (size_t i = 0; i < len && t < tokens; i++)
+        if (begins(text, i)) ok &= table[W * t++ + 6] == i;
+    return ok && t == tokens;
+}
+
+/* Whether two tables have the same tokens, each token's segment aside. */
+static int same_tokens(const uint32_t *a, const uint32_t *b, size_t tokens) {
+    int ok = 1;
+    for (size_t t = 0; t < tokens; t++) ok &= memcmp(a + W * t, b + W * t, offsetof(pgk_token, segment)) == 0;
+    return ok;
+}
+
+/* One text in every placement: one answer, no trace outside, each segment in its place, the table past the tokens kept. */
 static int decode_all(int mode, const char *text, size_t len, uint32_t s, uint32_t n, size_t numbers, pgk_decoded want, uint32_t *out) {
     int ok = 1;
     for (place i = FIRST; i < PLACES; i++)
@@ -95,8 +119,9 @@ static int decode_all(int mode, const char *text, size_t len, uint32_t s, uint32
             for (size_t k = 0; k < numbers; k++) table[k] = 0x5EED0000u + (uint32_t)k;
             pgk_decoded d = decode_at(mode, i, j, text, len, s, n, table, numbers, &ok);
             ok &= same_decoded(d, want);
-            for (size_t k = 6 * d.tokens; k < numbers; k++) ok &= table[k] == 0x5EED0000u + (uint32_t)k;
-            if (out != NULL && ok) memcpy(out, table, 24 * d.tokens);
+            ok &= in_place(table, d.tokens, text, len);
+            for (size_t k = W * d.tokens; k < numbers; k++) ok &= table[k] == 0x5EED0000u + (uint32_t)k;
+            if (out != NULL && ok) memcpy(out, table, 4 * W * d.tokens);
         }
     return ok;
 }
@@ -138,19 +163,22 @@ static void worked(void) {
         size_t len = strlen(rows[i].text);
         for (int mode = DEFAULT; mode < MODES; mode++) {
             uint32_t code = mode == LENIENT ? rows[i].code : rows[i].wide_code, number = mode == LENIENT ? rows[i].number : rows[i].wide_number;
-            uint32_t out[6] = { 0 };
+            uint32_t out[W] = { 0 };
             pgk_decoded want = { code, number, code == 0 ? rows[i].tokens : 0, code == 0 ? len : rows[i].at };
-            int ok = decode_all(mode, rows[i].text, len, rows[i].s, rows[i].n, 13, want, out);
-            if (code == 0 && rows[i].tokens == 1) ok &= out[0] == 0 && out[1] == rows[i].column && out[4] == none && out[5] == none;
+            int ok = decode_all(mode, rows[i].text, len, rows[i].s, rows[i].n, 2 * W - 1, want, out);
+            if (code == 0 && rows[i].tokens == 1) ok &= out[0] == 0 && out[1] == rows[i].column && out[4] == none && out[5] == none && out[6] == 0;
             check(ok, rows[i].text);
         }
     }
-    uint32_t out[12], two[12] = { 0, 0, 2, 3, 0, none, 1, 1, 2, 3, none, none };
-    for (int mode = DEFAULT; mode < MODES; mode++)
-        check(decode_all(mode, "AAEG;C", 6, 1, 0, 12, (pgk_decoded){ 0, 0, 2, 6 }, out) && memcmp(out, two, 48) == 0, "AAEG;C");
+    uint32_t out[2 * W], two[2 * W] = { 0, 0, 2, 3, 0, none, 0, 1, 1, 2, 3, none, none, 5 };
+    uint32_t gaps[2 * W] = { 0, 0, 0, 0, none, none, 2, 2, 0, 0, 0, none, none, 5 };
+    for (int mode = DEFAULT; mode < MODES; mode++) {
+        check(decode_all(mode, "AAEG;C", 6, 1, 0, 2 * W, (pgk_decoded){ 0, 0, 2, 6 }, out) && memcmp(out, two, sizeof two) == 0, "AAEG;C");
+        check(decode_all(mode, ",,A;;A", 6, 0, 0, 2 * W, (pgk_decoded){ 0, 0, 2, 6 }, out) && memcmp(out, gaps, sizeof gaps) == 0, ",,A;;A");
+    }
     /* What checked mode has alone: minus zero, the first field that is too wide, and its place among the refusals. */
-    uint32_t zero[6] = { 0 };
-    check(decode_all(LENIENT, "AAAAB", 5, 1, 1, 6, (pgk_decoded){ 0, 0, 1, 5 }, out) && memcmp(out, zero, 24) == 0, "minus zero as a name, lenient");
+    uint32_t zero[W] = { 0 };
+    check(decode_all(LENIENT, "AAAAB", 5, 1, 1, W, (pgk_decoded){ 0, 0, 1, 5 }, out) && memcmp(out, zero, sizeof zero) == 0, "minus zero as a name, lenient");
     static const struct { const char *text; uint32_t s, n; pgk_decoded want; const char *what; } rules[] = {
         { "AAAAB", 1, 1, { 6, 4, 0, 4 }, "minus zero as a name, checked" },
         { "AAggggggIA", 1, 0, { 6, 2, 0, 2 }, "a wide source line" },
@@ -167,18 +195,19 @@ static void worked(void) {
     };
     for (size_t i = 0; i < sizeof rules / sizeof *rules; i++) {
         for (int mode = DEFAULT; mode < MODES; mode += CHECKED) {
-            uint32_t read[24];
-            int ok = decode_all(mode, rules[i].text, strlen(rules[i].text), rules[i].s, rules[i].n, 24, rules[i].want, read);
-            if (rules[i].want.code == 0) ok &= read[7] == 2147483648u && read[13] == 0;
+            uint32_t read[4 * W];
+            int ok = decode_all(mode, rules[i].text, strlen(rules[i].text), rules[i].s, rules[i].n, 4 * W, rules[i].want, read);
+            if (rules[i].want.code == 0) ok &= read[W + 1] == 2147483648u && read[2 * W + 1] == 0;
             check(ok, rules[i].what);
         }
     }
-    check(decode_all(DEFAULT, "AAEG;C", 6, 1, 0, 11, (pgk_decoded){ 7, 0, 1, 5 }, out), "TableFull, eleven numbers");
-    check(decode_all(DEFAULT, "AAEG;AAA", 8, 1, 0, 6, (pgk_decoded){ 3, 3, 1, 5 }, out), "a full table and a bad segment: the segment's code");
-    check(decode_all(DEFAULT, "AAEG;AAAJ", 9, 1, 0, 12, (pgk_decoded){ 3, 0, 1, 8 }, out), "a source column below 0, behind a token");
-    check(decode_all(CHECKED, "AAAAA;AAAAC", 11, 1, 1, 12, (pgk_decoded){ 5, 1, 1, 10 }, out), "a bad name, behind a token");
-    check(decode_all(LENIENT, "A,!", 3, 0, 0, 12, (pgk_decoded){ 1, 0, 1, 3 }, out), "a value cut short at the end, behind a token");
-    check(decode_all(CHECKED, "AA", 2, 0, 0, 12, (pgk_decoded){ 3, 2, 0, 0 }, out), "a wrong count is at the segment's start");
+    check(decode_all(DEFAULT, "AAEG;C", 6, 1, 0, 2 * W - 1, (pgk_decoded){ 7, 0, 1, 5 }, out), "TableFull, one number too few");
+    check(decode_all(DEFAULT, "AAEG;C", 6, 1, 0, 12, (pgk_decoded){ 7, 0, 1, 5 }, out), "TableFull, two tokens of six numbers");
+    check(decode_all(DEFAULT, "AAEG;AAA", 8, 1, 0, W, (pgk_decoded){ 3, 3, 1, 5 }, out), "a full table and a bad segment: the segment's code");
+    check(decode_all(DEFAULT, "AAEG;AAAJ", 9, 1, 0, 2 * W, (pgk_decoded){ 3, 0, 1, 8 }, out), "a source column below 0, behind a token");
+    check(decode_all(CHECKED, "AAAAA;AAAAC", 11, 1, 1, 2 * W, (pgk_decoded){ 5, 1, 1, 10 }, out), "a bad name, behind a token");
+    check(decode_all(LENIENT, "A,!", 3, 0, 0, 2 * W, (pgk_decoded){ 1, 0, 1, 3 }, out) && out[6] == 0, "a value cut short at the end, behind a token");
+    check(decode_all(CHECKED, "AA", 2, 0, 0, 2 * W, (pgk_decoded){ 3, 2, 0, 0 }, out), "a wrong count is at the segment's start");
     check(decode_all(DEFAULT, "A", 1, 0, 0, 0, (pgk_decoded){ 7, 0, 0, 0 }, NULL), "TableFull, no table");
     check(decode_all(DEFAULT, ";;,", 3, 0, 0, 0, (pgk_decoded){ 0, 0, 0, 3 }, NULL), "delimiters need no table");
 }
@@ -202,9 +231,9 @@ static void texts(unsigned rounds) {
         for (size_t k = 0; k < 64; k++) table[k] = again[k] = 0x5EED0000u + (uint32_t)k;
         pgk_decoded d = decode_at(mode, HEAP, HEAP, text, len, s, n, table, numbers, &alike);
         alike &= decode_all(mode, text, len, s, n, numbers, d, NULL);
-        sound &= d.code <= 7 && 6 * d.tokens <= numbers && d.offset <= len && (d.code != 0 || d.offset == len);
+        sound &= d.code <= 7 && W * d.tokens <= numbers && d.offset <= len && (d.code != 0 || d.offset == len);
         for (size_t t = 0; t < d.tokens && sound; t++)
-            sound &= (table[6 * t + 4] == none || table[6 * t + 4] < s) && (table[6 * t + 5] == none || table[6 * t + 5] < n);
+            sound &= (table[W * t + 4] == none || table[W * t + 4] < s) && (table[W * t + 5] == none || table[W * t + 5] < n);
         size_t begin = (size_t)d.offset;
         while (d.code != 0 && begin > 0 && text[begin - 1] != ',' && text[begin - 1] != ';') begin--;
         pgk_decoded e = decode_at(mode, LAST, LAST, text, begin, s, n, again, numbers, &alike);
@@ -242,8 +271,8 @@ static void by_default(unsigned rounds) {
     for (size_t i = 0; i < sizeof rows / sizeof *rows; i++) {
         size_t len = strlen(rows[i].text);
         int ok = 1;
-        int same = alike_in(DEFAULT, CHECKED, rows[i].text, len, rows[i].s, rows[i].n, 24, &ok);
-        int apart = !alike_in(DEFAULT, LENIENT, rows[i].text, len, rows[i].s, rows[i].n, 24, &ok);
+        int same = alike_in(DEFAULT, CHECKED, rows[i].text, len, rows[i].s, rows[i].n, 4 * W, &ok);
+        int apart = !alike_in(DEFAULT, LENIENT, rows[i].text, len, rows[i].s, rows[i].n, 4 * W, &ok);
         check(ok && same && apart, rows[i].what);
     }
     static const char *const parts[] = { "A", "A", "A", "A", "C", "C", "D", "E", ",", ",", ",", ";", "B", "hA", "gA", "+/////D", "//////D",
@@ -293,90 +322,95 @@ static int encode_all(const uint32_t *table, size_t numbers, pgk_chunk c, size_t
 }
 
 static void writing(unsigned rounds) {
-    uint32_t two[12] = { 0, 0, 2, 3, 0, none, 1, 1, 2, 3, none, none };
+    uint32_t two[2 * W] = { 0, 0, 2, 3, 0, none, none, 1, 1, 2, 3, none, none, 7 };
     pgk_chunk all = { 0, 2, 0, 0, 0, 0, 0, 0 }, end = { 2, 2, 1, 1, 2, 3, 0, 0 };
     uint8_t got[4096];
-    check(encode_all(two, 12, all, 6, 0, 0, 6, end, got) && memcmp(got, "AAEG;C", 6) == 0, "AAEG;C is written, flush");
-    check(encode_all(two, 12, all, 64, 0, 0, 6, end, got), "AAEG;C is written, the rest kept");
-    check(encode_all(two, 12, all, 5, 8, 6, 0, all, NULL), "NoRoom 6");
-    check(encode_all(two, 12, all, 0, 8, 6, 0, all, NULL), "NoRoom 6, no room at all");
-    check(encode_all(two, 11, all, 64, 11, 0, 0, all, NULL), "BadTable");
+    check(encode_all(two, 2 * W, all, 6, 0, 0, 6, end, got) && memcmp(got, "AAEG;C", 6) == 0, "AAEG;C is written, flush");
+    check(encode_all(two, 2 * W, all, 64, 0, 0, 6, end, got), "AAEG;C is written, the rest kept");
+    check(encode_all(two, 2 * W, all, 5, 8, 6, 0, all, NULL), "NoRoom 6");
+    check(encode_all(two, 2 * W, all, 0, 8, 6, 0, all, NULL), "NoRoom 6, no room at all");
+    check(encode_all(two, 2 * W - 1, all, 64, 11, 0, 0, all, NULL), "BadTable");
     pgk_chunk bad = { 1, 0, 9, 8, 7, 6, 5, 4 }, far = { 0, 3, 9, 8, 7, 6, 5, 4 }, huge = { 4294967295u, 4294967295u, 0, 0, 0, 0, 0, 0 };
-    check(encode_all(two, 12, bad, 64, 10, 0, 0, bad, NULL), "BadChunk, start past end");
-    check(encode_all(two, 12, far, 64, 10, 0, 0, far, NULL), "BadChunk, end past the table");
-    check(encode_all(two, 12, huge, 64, 10, 0, 0, huge, NULL), "BadChunk, the largest numbers");
+    check(encode_all(two, 2 * W, bad, 64, 10, 0, 0, bad, NULL), "BadChunk, start past end");
+    check(encode_all(two, 2 * W, far, 64, 10, 0, 0, far, NULL), "BadChunk, end past the table");
+    check(encode_all(two, 2 * W, huge, 64, 10, 0, 0, huge, NULL), "BadChunk, the largest numbers");
     pgk_chunk late = { 0, 2, 1, 0, 0, 0, 0, 0 };
-    check(encode_all(two, 12, late, 64, 9, 0, 0, late, NULL), "LineGoesBack 0");
-    uint32_t fall[12] = { 1, 0, 0, 0, none, none, 0, 0, 0, 0, none, none };
-    check(encode_all(fall, 12, all, 64, 9, 1, 0, all, NULL), "LineGoesBack 1");
+    check(encode_all(two, 2 * W, late, 64, 9, 0, 0, late, NULL), "LineGoesBack 0");
+    uint32_t fall[2 * W] = { 1, 0, 0, 0, none, none, 0, 0, 0, 0, 0, none, none, 0 };
+    check(encode_all(fall, 2 * W, all, 64, 9, 1, 0, all, NULL), "LineGoesBack 1");
     pgk_chunk empty = { 1, 1, 9, 8, 7, 6, 5, 4 };
-    check(encode_all(two, 12, empty, 0, 0, 0, 0, empty, NULL), "an empty chunk");
-    uint32_t deep[6] = { 4294967295u, 4294967295u, 4294967295u, 4294967295u, 4294967294u, 4294967294u };
+    check(encode_all(two, 2 * W, empty, 0, 0, 0, 0, empty, NULL), "an empty chunk");
+    uint32_t deep[W] = { 4294967295u, 4294967295u, 4294967295u, 4294967295u, 4294967294u, 4294967294u, 4294967294u };
     pgk_chunk one = { 0, 1, 0, 0, 0, 0, 0, 0 }, done = { 1, 1, 4294967295u, 4294967295u, 4294967295u, 4294967295u, 4294967294u, 4294967294u };
-    check(encode_all(deep, 6, one, 64, 8, 4294967295u + 35ull, 0, one, NULL), "NoRoom past 32 bits");
+    check(encode_all(deep, W, one, 64, 8, 4294967295u + 35ull, 0, one, NULL), "NoRoom past 32 bits");
     /* Huge counts: the largest ids, there and back. */
     pgk_chunk deep_line = one;
     deep_line.prev_dst_line = 4294967295u;
     deep[0] = 4294967295u;
-    check(encode_all(deep, 6, deep_line, 35, 0, 0, 35, done, got), "the largest numbers are written in 35 bytes");
-    uint32_t back_again[6];
-    check(decode_all(CHECKED, (char *)got, 35, 4294967295u, 4294967295u, 6, (pgk_decoded){ 6, 0, 0, 0 }, NULL), "the largest steps, checked");
-    check(decode_all(DEFAULT, (char *)got, 35, 4294967295u, 4294967295u, 6, (pgk_decoded){ 6, 0, 0, 0 }, NULL), "the largest steps, by default");
-    int far_ids = decode_all(LENIENT, (char *)got, 35, 4294967295u, 4294967295u, 6, (pgk_decoded){ 0, 0, 1, 35 }, back_again);
+    check(encode_all(deep, W, deep_line, 35, 0, 0, 35, done, got), "the largest numbers are written in 35 bytes");
+    uint32_t back_again[W];
+    check(decode_all(CHECKED, (char *)got, 35, 4294967295u, 4294967295u, W, (pgk_decoded){ 6, 0, 0, 0 }, NULL), "the largest steps, checked");
+    check(decode_all(DEFAULT, (char *)got, 35, 4294967295u, 4294967295u, W, (pgk_decoded){ 6, 0, 0, 0 }, NULL), "the largest steps, by default");
+    int far_ids = decode_all(LENIENT, (char *)got, 35, 4294967295u, 4294967295u, W, (pgk_decoded){ 0, 0, 1, 35 }, back_again);
     check(far_ids && memcmp(back_again + 1, deep + 1, 20) == 0, "4294967295 sources and names");
-    check(decode_all(LENIENT, (char *)got, 35, 4294967294u, 4294967295u, 6, (pgk_decoded){ 4, 0, 0, 7 }, NULL), "4294967294 sources");
-    check(decode_all(LENIENT, (char *)got, 35, 4294967295u, 4294967294u, 6, (pgk_decoded){ 5, 4294967294u, 0, 28 }, NULL), "4294967294 names");
-    int round = 1, joined = 1, room = 1;
+    check(decode_all(LENIENT, (char *)got, 35, 4294967294u, 4294967295u, W, (pgk_decoded){ 4, 0, 0, 7 }, NULL), "4294967294 sources");
+    check(decode_all(LENIENT, (char *)got, 35, 4294967295u, 4294967294u, W, (pgk_decoded){ 5, 4294967294u, 0, 28 }, NULL), "4294967294 names");
+    int round = 1, joined = 1, room = 1, unread = 1;
     unsigned wide = 0;
     for (unsigned r = 0; r < rounds; r++) {
-        uint32_t table[96], read[96] = { 0 }, count = below(17), line = 0;
+        uint32_t table[16 * W], read[16 * W] = { 0 }, count = below(17), line = 0;
         for (uint32_t t = 0; t < count; t++) {
-            uint32_t *k = table + 6 * t;
+            uint32_t *k = table + W * t;
             line += below(3) ? 0 : below(4);
             uint32_t size = below(3) ? 40 : 4294967295u;
             k[0] = line; k[1] = below(size); k[2] = below(size); k[3] = below(size);
             k[4] = below(4) ? below(size) : none; k[5] = k[4] != none && below(2) ? below(size) : none;
-            if (k[4] == none) { k[2] = t ? k[-4] : 0; k[3] = t ? k[-3] : 0; }
+            k[6] = below(3) ? any() : none;
+            if (k[4] == none) { k[2] = t ? k[2 - W] : 0; k[3] = t ? k[3 - W] : 0; }
         }
         uint8_t whole[4096], parts[4096];
         memset(whole, '#', sizeof whole);
         pgk_chunk c = { 0, count, 0, 0, 0, 0, 0, 0 };
         int ok = 1;
-        pgk_encoded e = encode_at(FIRST, FIRST, table, 6 * count, c, whole, 4096, &ok);
+        pgk_encoded e = encode_at(FIRST, FIRST, table, W * count, c, whole, 4096, &ok);
         round &= ok && e.code == 0 && e.next.start == count && e.next.end == count;
         int mode = (int)below(MODES);
-        pgk_decoded d = decode_at(mode, LAST, LAST, whole, e.bytes, 4294967295u, 4294967295u, read, 6 * count, &ok);
-        if (mode != LENIENT && pgk_meets_checked_premises(table, 6 * count, 4294967295u, 4294967295u) == 0) {
+        pgk_decoded d = decode_at(mode, LAST, LAST, whole, e.bytes, 4294967295u, 4294967295u, read, W * count, &ok);
+        if (mode != LENIENT && pgk_meets_checked_premises(table, W * count, 4294967295u, 4294967295u) == 0) {
             round &= ok && d.code == PGK_WIDE_VALUE;
             wide++;
         } else {
-            round &= ok && d.code == 0 && d.tokens == count && memcmp(table, read, 24 * count) == 0;
+            round &= ok && d.code == 0 && d.tokens == count && same_tokens(table, read, count) && in_place(read, count, (char *)whole, e.bytes);
         }
-        if (e.bytes > 0) room &= encode_all(table, 6 * count, c, e.bytes - 1, 8, e.bytes, 0, c, NULL);
-        room &= encode_all(table, 6 * count, c, e.bytes, 0, 0, e.bytes, e.next, NULL);
+        if (e.bytes > 0) room &= encode_all(table, W * count, c, e.bytes - 1, 8, e.bytes, 0, c, NULL);
+        room &= encode_all(table, W * count, c, e.bytes, 0, 0, e.bytes, e.next, NULL);
         size_t at = 0;
         pgk_chunk next = { 0, 0, 0, 0, 0, 0, 0, 0 };
         while (next.start < count) {
             next.end = next.start + 1 + below(count - next.start);
             memset(parts + at, '#', sizeof parts - at);
-            pgk_encoded p = encode_at(LAST, LAST, table, 6 * count, next, parts + at, 4096 - at, &ok);
+            pgk_encoded p = encode_at(LAST, LAST, table, W * count, next, parts + at, 4096 - at, &ok);
             if (p.code != 0 || p.next.start != next.end) { joined = 0; break; }
             at += p.bytes; next = p.next;
         }
         joined &= ok && at == e.bytes && memcmp(whole, parts, at) == 0;
+        for (uint32_t t = 0; t < count; t++) table[W * t + 6] = below(2) ? any() : none;
+        pgk_encoded o = encode_at(FIRST, LAST, table, W * count, c, parts, 4096, &ok);
+        unread &= ok && o.code == 0 && o.bytes == e.bytes && same_chunk(o.next, e.next) && memcmp(whole, parts, e.bytes) == 0;
     }
     check(round, "tables: written and decoded again, the same tokens; or refused in checked mode, where a step is too wide");
     check(wide > 0, "tables with a step that is too wide");
     check(room, "tables: one byte too few is NoRoom with the bytes needed, the exact room is enough");
     check(joined, "tables: chunks of any size, joined, are the text of the whole");
+    check(unread, "tables: the same text, whatever the segments are");
 }
 
 /* Translation by the rule. 0 if refused, with the index in *bad. */
 static int moved(uint32_t *k, size_t tokens, uint32_t l, uint32_t s, uint32_t n, uint64_t *bad) {
     uint32_t new[96];
-    memcpy(new, k, 24 * tokens);
+    memcpy(new, k, 4 * W * tokens);
     for (size_t t = 0; t < tokens; t++) {
-        uint32_t *x = new + 6 * t;
+        uint32_t *x = new + W * t;
         *bad = t;
         if ((uint64_t)x[0] + l > 4294967295u) return 0;
         if (x[4] != none && (uint64_t)x[4] + s >= 4294967295u) return 0;
@@ -385,7 +419,7 @@ static int moved(uint32_t *k, size_t tokens, uint32_t l, uint32_t s, uint32_t n,
         if (x[4] != none) x[4] += s;
         if (x[5] != none) x[5] += n;
     }
-    memcpy(k, new, 24 * tokens);
+    memcpy(k, new, 4 * W * tokens);
     return 1;
 }
 
@@ -396,37 +430,47 @@ static void translating(unsigned rounds) {
         size_t numbers = below(97);
         for (size_t k = 0; k < 96; k++) { uint32_t x = below(30); table[k] = x < 4 ? none : x == 4 ? none - 1 - below(9) : below(1000); }
         uint32_t l = below(20), s = below(20), n = below(20);
-        for (size_t k = 0; k + 6 <= 96; k += 6) if (below(8)) table[k] = below(1000);
+        for (size_t k = 0; k + W <= 96; k += W) if (below(8)) table[k] = below(1000);
         uint64_t code = 0, number = 0;
         memcpy(want, table, sizeof table);
-        if (numbers % 6 != 0) code = 11;
-        else if (!moved(want, numbers / 6, l, s, n, &number)) code = 12;
+        if (numbers % W != 0) code = 11;
+        else if (!moved(want, numbers / W, l, s, n, &number)) code = 12;
         else number = 0;
         for (place i = FIRST; i < PLACES; i++) {
             memcpy(got, table, sizeof table);
             lent a = lend(pens[0], i, got, 4 * numbers, 1);
             pgk_answer d = pgk_translate((uint32_t *)a.at, numbers, l, s, n);
             tables &= back(a, got) && d.code == code && d.number == number && memcmp(got, want, sizeof got) == 0;
-            if (numbers % 6 != 0) continue;
+            if (numbers % W != 0) continue;
             memcpy(got, table, sizeof table);
             a = lend(pens[0], i, got, 4 * numbers, 1);
-            d = pgk_translate_tokens((pgk_token *)a.at, numbers / 6, l, s, n);
+            d = pgk_translate_tokens((pgk_token *)a.at, numbers / W, l, s, n);
             records &= back(a, got) && d.code == code && d.number == number && memcmp(got, want, sizeof got) == 0;
         }
     }
     check(tables, "translating tables, by the rule, refused as a whole");
     check(records, "translating records, by the rule, refused as a whole");
-    uint32_t id[6] = { 0, 0, 0, 0, 4294967294u, none };
-    pgk_answer a = pgk_translate(id, 6, 0, 1, 0);
+    uint32_t id[W] = { 0, 0, 0, 0, 4294967294u, none, 4294967294u };
+    pgk_answer a = pgk_translate(id, W, 0, 1, 0);
     check(a.code == 12 && a.number == 0 && id[4] == 4294967294u, "TooBig: an id sum of 4294967295 does not become none");
-    a = pgk_translate(id, 6, 4294967295u, 0, 4294967295u);
-    check(a.code == 0 && id[0] == 4294967295u && id[5] == none, "the largest line, none stays none");
+    a = pgk_translate(id, W, 4294967295u, 0, 4294967295u);
+    check(a.code == 0 && id[0] == 4294967295u && id[5] == none && id[6] == 4294967294u, "the largest line, none stays none");
+    static const uint32_t segments[] = { 0, 5, 2147483648u, 4294967294u, PGK_NONE };
+    int kept = 1;
+    for (size_t i = 0; i < sizeof segments / sizeof *segments; i++) {
+        pgk_token t = { 1, 2, 3, 4, 5, 6, segments[i] }, want = { 11, 2, 3, 4, 25, 36, segments[i] };
+        uint32_t table[W];
+        memcpy(table, &t, sizeof t);
+        kept &= pgk_translate(table, W, 10, 20, 30).code == 0 && memcmp(table, &want, sizeof want) == 0;
+        kept &= pgk_translate_tokens(&t, 1, 10, 20, 30).code == 0 && memcmp(&t, &want, sizeof want) == 0;
+    }
+    check(kept, "translating keeps each segment, in both forms");
 }
 
 static uint64_t found(const uint32_t *k, size_t tokens, uint32_t line, uint32_t col) {
     uint64_t best = none;
     for (size_t t = 0; t < tokens; t++)
-        if (k[6 * t] == line && k[6 * t + 1] <= col && (best == none || k[6 * t + 1] >= k[6 * best + 1])) best = t;
+        if (k[W * t] == line && k[W * t + 1] <= col && (best == none || k[W * t + 1] >= k[W * best + 1])) best = t;
     return best;
 }
 
@@ -440,7 +484,7 @@ static void looking(unsigned rounds) {
         for (place i = FIRST; i < PLACES; i++) {
             lent a = lend(pens[0], i, table, 4 * numbers, 0);
             pgk_answer d = pgk_lookup((uint32_t *)a.at, numbers, line, col);
-            ok &= back(a, NULL) && d.code == (numbers % 6 ? 11 : 0) && d.number == (numbers % 6 ? 0 : found(table, numbers / 6, line, col));
+            ok &= back(a, NULL) && d.code == (numbers % W ? 11 : 0) && d.number == (numbers % W ? 0 : found(table, numbers / W, line, col));
         }
     }
     check(ok, "lookup in any table, by the rule");
@@ -449,9 +493,8 @@ static void looking(unsigned rounds) {
 /* How many numbers a table needs, by the rule: the bytes that begin a segment. */
 static size_t needed(const char *text, size_t len) {
     size_t n = 0;
-    for (size_t i = 0; i < len; i++)
-        n += text[i] != ',' && text[i] != ';' && (i == 0 || text[i - 1] == ',' || text[i - 1] == ';');
-    return PGK_WIDTH * n;
+    for (size_t i = 0; i < len; i++) n += begins(text, i);
+    return W * n;
 }
 
 static size_t size_at(place where, const void *text, size_t len, int *ok) {
@@ -463,8 +506,8 @@ static size_t size_at(place where, const void *text, size_t len, int *ok) {
 
 static void sizing(unsigned rounds) {
     static const struct { const char *text; size_t size; } rows[] = {
-        { "", 0 }, { ";", 0 }, { ",,;;,", 0 }, { "A", 6 }, { "AAEG;C", 12 }, { "AAEG;C;", 12 }, { ",A", 6 }, { "A,;,A", 12 },
-        { "AAAAAAAAAAAAAAAA", 6 }, { "A,A,A,A", 24 }, { "!\x80 \n", 6 }, { "+:-<", 6 },
+        { "", 0 }, { ";", 0 }, { ",,;;,", 0 }, { "A", 7 }, { "AAEG;C", 14 }, { "AAEG;C;", 14 }, { ",A", 7 }, { "A,;,A", 14 },
+        { "AAAAAAAAAAAAAAAA", 7 }, { "A,A,A,A", 28 }, { "!\x80 \n", 7 }, { "+:-<", 7 },
     };
     int ok = 1, by_rule = 1, most = 1, fits = 1, least = 1;
     unsigned done = 0, refused = 0;
@@ -504,8 +547,8 @@ static void sizing(unsigned rounds) {
 /* Whether a table surely reads back, by the rule. */
 static uint64_t premised(const uint32_t *k, size_t numbers, uint32_t sources, uint32_t names) {
     uint32_t line = 0, src_line = 0, src_col = 0;
-    if (numbers % 6 != 0) return 0;
-    for (size_t t = 0; t < numbers / 6; t++, k += 6) {
+    if (numbers % W != 0) return 0;
+    for (size_t t = 0; t < numbers / W; t++, k += W) {
         int with = k[4] != none;
         if (k[0] < line || (with && k[4] >= sources) || (k[5] != none && (k[5] >= names || !with))) return 0;
         if (!with && (k[2] != src_line || k[3] != src_col)) return 0;
@@ -519,7 +562,7 @@ static uint64_t premised(const uint32_t *k, size_t numbers, uint32_t sources, ui
 static uint64_t premised_checked(const uint32_t *k, size_t numbers, uint32_t sources, uint32_t names) {
     int64_t line = 0, was[6] = { 0 };   /* by the place in a token */
     if (!premised(k, numbers, sources, names)) return 0;
-    for (size_t t = 0; t < numbers / 6; t++, k += 6) {
+    for (size_t t = 0; t < numbers / W; t++, k += W) {
         if (k[0] != line) was[1] = 0;
         line = k[0];
         for (int i = 1; i < 6; i++) {
@@ -541,29 +584,30 @@ static uint64_t premises_at(int checked, place where, const uint32_t *table, siz
 
 static void premises(unsigned rounds) {
     /* meets: 0 none, 1 those of lenient mode, 2 those of checked mode too. */
-    static const struct { uint32_t token[12]; size_t numbers; uint32_t s, n; uint64_t meets; const char *what; } rows[] = {
+    static const struct { uint32_t token[2 * W]; size_t numbers; uint32_t s, n; uint64_t meets; const char *what; } rows[] = {
         { { 0 }, 0, 0, 0, 2, "no token" },
-        { { 0, 0, 0, 0, PGK_NONE, PGK_NONE }, 6, 0, 0, 2, "a token without a source at 0, 0" },
-        { { 0, 0, 0, 0, PGK_NONE, PGK_NONE }, 5, 0, 0, 0, "not whole tokens" },
-        { { 9, 7, 5, 3, 0, 0 }, 6, 1, 1, 2, "a source and a name" },
-        { { 9, 7, 5, 3, 0, 0 }, 6, 0, 1, 0, "a source past its count" },
-        { { 9, 7, 5, 3, 0, 0 }, 6, 1, 0, 0, "a name past its count" },
-        { { 0, 0, 0, 0, PGK_NONE, 0 }, 6, 1, 1, 0, "a name without a source" },
-        { { 0, 0, 0, 1, PGK_NONE, PGK_NONE }, 6, 1, 1, 0, "a source column without a source" },
-        { { 0, 0, 1, 0, PGK_NONE, PGK_NONE }, 6, 1, 1, 0, "a source line without a source" },
-        { { 0, 0, 2, 3, 0, PGK_NONE, 1, 1, 2, 3, PGK_NONE, PGK_NONE }, 12, 1, 0, 2, "the source position before is repeated" },
-        { { 0, 0, 2, 3, 0, PGK_NONE, 1, 1, 0, 0, PGK_NONE, PGK_NONE }, 12, 1, 0, 0, "the source position before is not repeated" },
-        { { 1, 0, 2, 3, 0, PGK_NONE, 0, 0, 2, 3, 0, PGK_NONE }, 12, 1, 0, 0, "a line goes back" },
-        { { 1, 5, 2, 3, 0, PGK_NONE, 1, 0, 2, 3, 0, PGK_NONE }, 12, 1, 0, 2, "a column goes back" },
-        { { 4294967295u, 0, 0, 0, 4294967294u, 4294967294u }, 6, PGK_NONE, PGK_NONE, 1, "the largest line and ids" },
-        { { 4294967295u, 2147483647u, 2147483647u, 2147483647u, 2147483647u, 2147483647u }, 6, PGK_NONE, PGK_NONE, 2, "the largest steps" },
-        { { 0, 2147483648u, 0, 0, 0, 0 }, 6, 1, 1, 1, "a column by 2^31" },
-        { { 0, 0, 2147483648u, 0, 0, 0 }, 6, 1, 1, 1, "a source line by 2^31" },
-        { { 0, 0, 0, 2147483648u, 0, 0 }, 6, 1, 1, 1, "a source column by 2^31" },
-        { { 0, 0, 0, 0, 2147483648u, 0 }, 6, PGK_NONE, 1, 1, "a source by 2^31" },
-        { { 0, 0, 0, 0, 0, 2147483648u }, 6, 1, PGK_NONE, 1, "a name by 2^31" },
-        { { 0, 1, 0, 0, 0, PGK_NONE, 0, 2147483648u, 0, 0, 0, PGK_NONE }, 12, 1, 0, 2, "2^31 by a smaller step" },
-        { { 0, 1, 0, 0, 0, PGK_NONE, 1, 2147483648u, 0, 0, 0, PGK_NONE }, 12, 1, 0, 1, "2^31 from the start of a line" },
+        { { 0, 0, 0, 0, PGK_NONE, PGK_NONE, 0 }, W, 0, 0, 2, "a token without a source at 0, 0" },
+        { { 0, 0, 0, 0, PGK_NONE, PGK_NONE, PGK_NONE }, W - 1, 0, 0, 0, "not whole tokens" },
+        { { 0, 0, 0, 0, PGK_NONE, PGK_NONE, 0, 0, 0, 0, PGK_NONE, PGK_NONE }, 12, 0, 0, 0, "two tokens of six numbers" },
+        { { 9, 7, 5, 3, 0, 0, 4 }, W, 1, 1, 2, "a source and a name" },
+        { { 9, 7, 5, 3, 0, 0, 2147483648u }, W, 0, 1, 0, "a source past its count" },
+        { { 9, 7, 5, 3, 0, 0, 0 }, W, 1, 0, 0, "a name past its count" },
+        { { 0, 0, 0, 0, PGK_NONE, 0, PGK_NONE }, W, 1, 1, 0, "a name without a source" },
+        { { 0, 0, 0, 1, PGK_NONE, PGK_NONE, 4 }, W, 1, 1, 0, "a source column without a source" },
+        { { 0, 0, 1, 0, PGK_NONE, PGK_NONE, 2147483648u }, W, 1, 1, 0, "a source line without a source" },
+        { { 0, 0, 2, 3, 0, PGK_NONE, 0, 1, 1, 2, 3, PGK_NONE, PGK_NONE, PGK_NONE }, 2 * W, 1, 0, 2, "the source position before is repeated" },
+        { { 0, 0, 2, 3, 0, PGK_NONE, 4, 1, 1, 0, 0, PGK_NONE, PGK_NONE, 2147483648u }, 2 * W, 1, 0, 0, "the source position before is not repeated" },
+        { { 1, 0, 2, 3, 0, PGK_NONE, 0, 0, 0, 2, 3, 0, PGK_NONE, PGK_NONE }, 2 * W, 1, 0, 0, "a line goes back" },
+        { { 1, 5, 2, 3, 0, PGK_NONE, 4, 1, 0, 2, 3, 0, PGK_NONE, 2147483648u }, 2 * W, 1, 0, 2, "a column goes back" },
+        { { 4294967295u, 0, 0, 0, 4294967294u, 4294967294u, 0 }, W, PGK_NONE, PGK_NONE, 1, "the largest line and ids" },
+        { { 4294967295u, 2147483647u, 2147483647u, 2147483647u, 2147483647u, 2147483647u, PGK_NONE }, W, PGK_NONE, PGK_NONE, 2, "the largest steps" },
+        { { 0, 2147483648u, 0, 0, 0, 0, 4 }, W, 1, 1, 1, "a column by 2^31" },
+        { { 0, 0, 2147483648u, 0, 0, 0, 2147483648u }, W, 1, 1, 1, "a source line by 2^31" },
+        { { 0, 0, 0, 2147483648u, 0, 0, 0 }, W, 1, 1, 1, "a source column by 2^31" },
+        { { 0, 0, 0, 0, 2147483648u, 0, PGK_NONE }, W, PGK_NONE, 1, 1, "a source by 2^31" },
+        { { 0, 0, 0, 0, 0, 2147483648u, 4 }, W, 1, PGK_NONE, 1, "a name by 2^31" },
+        { { 0, 1, 0, 0, 0, PGK_NONE, 2147483648u, 0, 2147483648u, 0, 0, 0, PGK_NONE, 0 }, 2 * W, 1, 0, 2, "2^31 by a smaller step" },
+        { { 0, 1, 0, 0, 0, PGK_NONE, PGK_NONE, 1, 2147483648u, 0, 0, 0, PGK_NONE, 4 }, 2 * W, 1, 0, 1, "2^31 from the start of a line" },
     };
     for (size_t i = 0; i < sizeof rows / sizeof *rows; i++) {
         int ok = 1;
@@ -575,23 +619,23 @@ static void premises(unsigned rounds) {
     int by_rule = 1, reads_back = 1, refuses = 1;
     unsigned met = 0, unmet = 0, wide = 0;
     for (unsigned r = 0; r < rounds; r++) {
-        uint32_t table[96], line = 0, at[2] = { 0, 0 }, s = 1 + below(4), n = 1 + below(4);
-        size_t tokens = below(17), numbers = below(20) ? 6 * tokens : below(97);
-        for (size_t k = 0; k < 96; k += 6) {
+        uint32_t table[16 * W], line = 0, at[2] = { 0, 0 }, s = 1 + below(4), n = 1 + below(4);
+        size_t tokens = below(17), numbers = below(20) ? W * tokens : below(16 * W + 1);
+        for (size_t k = 0; k < 16 * W; k += W) {
             uint32_t id = below(3) ? below(s) : none;
             line += below(3);
             table[k] = line; table[k + 1] = below(1000); table[k + 2] = below(5); table[k + 3] = below(5);
-            table[k + 4] = id; table[k + 5] = id != none && below(2) ? below(n) : none;
+            table[k + 4] = id; table[k + 5] = id != none && below(2) ? below(n) : none; table[k + 6] = below(3) ? any() : none;
             if (id == none) { table[k + 2] = at[0]; table[k + 3] = at[1]; }
             at[0] = table[k + 2]; at[1] = table[k + 3];
         }
-        size_t odd = below(96);   /* one number that may break it */
-        if (below(2) == 0) table[odd] = below(3) ? below(6) : odd % 6 == 0 ? line : none;
-        size_t far = 6 * below(16) + 1 + below(5);   /* one whose step may be too wide */
+        size_t odd = below(16 * W);   /* one number that may break it */
+        if (below(2) == 0) table[odd] = below(3) ? below(6) : odd % W == 0 ? line : none;
+        size_t far = W * below(16) + 1 + below(5);   /* one whose step may be too wide */
         if (below(3) == 0 && table[far] != none) {
             table[far] = 2147483640u + below(16);
-            if (far % 6 == 4) s = PGK_NONE;
-            if (far % 6 == 5) n = PGK_NONE;
+            if (far % W == 4) s = PGK_NONE;
+            if (far % W == 5) n = PGK_NONE;
         }
         uint64_t want = premised(table, numbers, s, n), also = premised_checked(table, numbers, s, n);
         for (place w = FIRST; w < PLACES; w++) {
@@ -601,14 +645,14 @@ static void premises(unsigned rounds) {
         if (!want) { unmet++; continue; }
         met++;
         uint8_t text[36 * 16 + 2 * 16];   /* lines advance by at most two a token */
-        uint32_t again[96];
-        pgk_encoded e = pgk_encode(table, numbers, pgk_first_chunk((uint32_t)(numbers / 6)), text, sizeof text);
-        pgk_decoded d = pgk_decode_lenient(text, e.bytes, s, n, again, 96);
-        reads_back &= e.code == PGK_DONE && d.code == PGK_DONE && 6 * d.tokens == numbers && memcmp(table, again, 4 * numbers) == 0;
+        uint32_t again[16 * W];
+        pgk_encoded e = pgk_encode(table, numbers, pgk_first_chunk((uint32_t)(numbers / W)), text, sizeof text);
+        pgk_decoded d = pgk_decode_lenient(text, e.bytes, s, n, again, 16 * W);
+        reads_back &= e.code == PGK_DONE && d.code == PGK_DONE && W * d.tokens == numbers && same_tokens(table, again, d.tokens);
         memset(again, 0, sizeof again);
-        d = pgk_decode_checked(text, e.bytes, s, n, again, 96);
+        d = pgk_decode_checked(text, e.bytes, s, n, again, 16 * W);
         if (!also) { wide++; refuses &= d.code == PGK_WIDE_VALUE; continue; }
-        reads_back &= d.code == PGK_DONE && 6 * d.tokens == numbers && memcmp(table, again, 4 * numbers) == 0;
+        reads_back &= d.code == PGK_DONE && W * d.tokens == numbers && same_tokens(table, again, d.tokens);
     }
     check(by_rule, "premises of both modes, by the rule, in every placement");
     check(reads_back, "where the premises are met, what is written reads back");
@@ -622,7 +666,8 @@ static void header(void) {
     check(pgk_version() == PGK_VERSION, "the archive is of the header's version");
     snprintf(text, sizeof text, "%u.%u.%u", PGK_VERSION / 1000000u, PGK_VERSION / 1000u % 1000u, PGK_VERSION % 1000u);
     check(strcmp(text, PGK_VERSION_TEXT) == 0, "the version's number and text");
-    check(sizeof(pgk_token) == PGK_WIDTH * sizeof(uint32_t), "PGK_WIDTH");
+    check(PGK_WIDTH == 7 && sizeof(pgk_token) == PGK_WIDTH * sizeof(uint32_t), "PGK_WIDTH");
+    check(sizeof(pgk_token) == 28 && offsetof(pgk_token, segment) == 24, "the record of a token");
     pgk_chunk c = pgk_first_chunk(4294967295u), d = { 0, 4294967295u, 0, 0, 0, 0, 0, 0 };
     check(same_chunk(c, d), "the first chunk");
     int ok = 1;
@@ -652,15 +697,15 @@ static int equal(names a, size_t i, names b, size_t j) {
 static pgk_composed composed(const uint32_t *o, size_t on, uint32_t sources, names x, const uint32_t *in, size_t inn, names y,
     uint32_t *res, size_t resn, uint32_t *added, size_t addn) {
     pgk_composed c = { 0, 0, 0 };
-    c.code = sources > 1 ? 13 : on % 6 || inn % 6 ? 11 : !sound(x) || !sound(y) ? 14 : resn / 6 < on / 6 ? 7 : addn < x.count ? 8 : 0;
+    c.code = sources > 1 ? 13 : on % W || inn % W ? 11 : !sound(x) || !sound(y) ? 14 : resn / W < on / W ? 7 : addn < x.count ? 8 : 0;
     if (c.code == 8) c.number = x.count;
     if (c.code != 0) return c;
-    for (size_t t = 0; t < on / 6; t++) {
-        const uint32_t *k = o + 6 * t;
-        uint32_t new[6] = { k[0], k[1], 0, 0, none, none };
-        uint64_t f = k[4] == none ? none : found(in, inn / 6, k[2], k[3]);
-        if (f != none && in[6 * f + 4] != none) {
-            memcpy(new + 2, in + 6 * f + 2, 16);
+    for (size_t t = 0; t < on / W; t++) {
+        const uint32_t *k = o + W * t;
+        uint32_t new[W] = { k[0], k[1], 0, 0, none, none, k[6] };
+        uint64_t f = k[4] == none ? none : found(in, inn / W, k[2], k[3]);
+        if (f != none && in[W * f + 4] != none) {
+            memcpy(new + 2, in + W * f + 2, 16);
             if (new[5] == none && k[5] < x.count) {
                 size_t i = 0;
                 while (i < y.count && !equal(x, k[5], y, i)) i++;
@@ -673,7 +718,7 @@ static pgk_composed composed(const uint32_t *o, size_t on, uint32_t sources, nam
                 new[5] = (uint32_t)i;
             }
         }
-        memcpy(res + 6 * t, new, 24);
+        memcpy(res + W * t, new, sizeof new);
     }
     return c;
 }
@@ -706,22 +751,23 @@ static void composing(unsigned rounds) {
         uint8_t xt[8], yt[8];
         size_t xe[8], ye[8];
         names x = some(xt, xe), y = some(yt, ye);
-        uint32_t o[60], in[60], res[64], want[64], add[10], wadd[10];
-        for (size_t k = 0; k < 60; k++) {
-            uint32_t top = k % 6 < 4 ? 4 : 7;
+        enum { MOST = 10 * W, ROOM = MOST + 4 };
+        uint32_t o[MOST], in[MOST], res[ROOM], want[ROOM], add[10], wadd[10];
+        for (size_t k = 0; k < MOST; k++) {
+            uint32_t top = k % W < 4 ? 4 : 7;
             o[k] = below(top); in[k] = below(top);
-            if (k % 6 > 3) { if (below(4) == 0) o[k] = none; if (below(3) == 0) in[k] = none; }
+            if (k % W == 6) { o[k] = any(); in[k] = any(); }
+            if (k % W > 3) { if (below(4) == 0) o[k] = none; if (below(3) == 0) in[k] = none; }
         }
-        size_t on = below(30) ? 6 * below(10) : below(60), inn = below(30) ? 6 * below(10) : below(60);
-        size_t resn = below(10) ? on + below(5) : below(60), addn = below(10) ? x.count + below(3) : below(8);
-        if (resn > 64) resn = 64;
+        size_t on = below(30) ? W * below(10) : below(MOST), inn = below(30) ? W * below(10) : below(MOST);
+        size_t resn = below(10) ? on + below(5) : below(MOST), addn = below(10) ? x.count + below(3) : below(8);
         uint32_t sources = below(20) ? below(2) : any();
-        for (size_t k = 0; k < 64; k++) res[k] = want[k] = 0x5EED0000u + (uint32_t)k;
+        for (size_t k = 0; k < ROOM; k++) res[k] = want[k] = 0x5EED0000u + (uint32_t)k;
         for (size_t k = 0; k < 10; k++) add[k] = wadd[k] = 0xADD0000u + (uint32_t)k;
         pgk_composed w = composed(o, on, sources, x, in, inn, y, want, resn, wadd, addn);
         seen[w.code]++;
         for (place i = FIRST; i < PLACES; i++) {
-            uint32_t got[64], gadd[10];
+            uint32_t got[ROOM], gadd[10];
             memcpy(got, res, sizeof got); memcpy(gadd, add, sizeof gadd);
             place wide = i == HEAP ? LAST : i;   /* ends are size_t, so aligned to eight */
             lent a = lend(pens[0], i, o, 4 * on, 0), b = lend(pens[1], i, in, 4 * inn, 0), c = lend(pens[2], i, got, 4 * resn, 1),
@@ -783,37 +829,89 @@ static void empty(void) {
 /* One token too many: refused by the length alone, so pages that cannot be read do. */
 static void too_many(void) {
     size_t tokens = 4294967295u;
-    uint32_t *t = mmap(NULL, 24 * tokens, PROT_NONE, MAP_PRIVATE | MAP_ANONYMOUS | MAP_NORESERVE, -1, 0);
+    uint32_t *t = mmap(NULL, 4 * W * tokens, PROT_NONE, MAP_PRIVATE | MAP_ANONYMOUS | MAP_NORESERVE, -1, 0);
     if ((void *)t == MAP_FAILED) { printf("no address space for 4294967295 tokens: left out\n"); return; }
     pgk_chunk c = { 0, 0, 0, 0, 0, 0, 0, 0 };
     uint8_t byte = 0;
     uint32_t number = 0;
     size_t end = 0;
-    check(pgk_encode(t, 6 * tokens, c, &byte, 1).code == 11, "BadTable past 4294967294 tokens: encode");
-    check(pgk_translate(t, 6 * tokens, 0, 0, 0).code == 11, "BadTable past 4294967294 tokens: translate");
+    check(pgk_encode(t, W * tokens, c, &byte, 1).code == 11, "BadTable past 4294967294 tokens: encode");
+    check(pgk_translate(t, W * tokens, 0, 0, 0).code == 11, "BadTable past 4294967294 tokens: translate");
     check(pgk_translate_tokens((pgk_token *)t, tokens, 0, 0, 0).code == 11, "BadTable past 4294967294 records");
-    check(pgk_lookup(t, 6 * tokens, 0, 0).code == 11, "BadTable past 4294967294 tokens: lookup");
-    check(pgk_meets_premises(t, 6 * tokens, none, none) == 0, "no premises past 4294967294 tokens");
-    check(pgk_meets_checked_premises(t, 6 * tokens, none, none) == 0, "no premises of checked mode past 4294967294 tokens");
-    check(pgk_compose(t, 6 * tokens, 0, &byte, 0, &end, 0, &number, 0, &byte, 0, &end, 0, &number, 0, &number, 0).code == 11, "BadTable: compose, outer");
-    check(pgk_compose(&number, 0, 0, &byte, 0, &end, 0, t, 6 * tokens, &byte, 0, &end, 0, &number, 0, &number, 0).code == 11, "BadTable: compose, inner");
+    check(pgk_lookup(t, W * tokens, 0, 0).code == 11, "BadTable past 4294967294 tokens: lookup");
+    check(pgk_meets_premises(t, W * tokens, none, none) == 0, "no premises past 4294967294 tokens");
+    check(pgk_meets_checked_premises(t, W * tokens, none, none) == 0, "no premises of checked mode past 4294967294 tokens");
+    check(pgk_compose(t, W * tokens, 0, &byte, 0, &end, 0, &number, 0, &byte, 0, &end, 0, &number, 0, &number, 0).code == 11, "BadTable: compose, outer");
+    check(pgk_compose(&number, 0, 0, &byte, 0, &end, 0, t, W * tokens, &byte, 0, &end, 0, &number, 0, &number, 0).code == 11, "BadTable: compose, inner");
     check(pgk_compose(&number, 0, 0, &byte, 0, (size_t *)t, 2147483648u, &number, 0, &byte, 0, &end, 0, &number, 0, &number, 0).code == 14, "BadNames past 2147483647 names, outer");
     check(pgk_compose(&number, 0, 0, &byte, 0, &end, 0, &number, 0, &byte, 0, (size_t *)t, 2147483648u, &number, 0, &number, 0).code == 14, "BadNames past 2147483647 names, inner");
     check(pgk_name_of(&byte, 0, (size_t *)t, 2147483648u, &byte, 0, &end, 0, &number, 0, 0).found == 0, "no name in a list past 2147483647 names");
     /* An output table has no upper limit of tokens. */
-    pgk_decoded d = pgk_decode((const uint8_t *)";;", 2, 0, 0, t, 6 * tokens);
+    pgk_decoded d = pgk_decode((const uint8_t *)";;", 2, 0, 0, t, W * tokens);
     check(d.code == 0 && d.tokens == 0 && d.offset == 2, "an output table of 4294967295 places");
-    munmap(t, 24 * tokens);
+    munmap(t, 4 * W * tokens);
 }
 
 /* An output table need not be set: nothing of it is read. valgrind watches. */
 static void unset(void) {
-    uint32_t *t = malloc(4 * 13);
-    pgk_decoded d = pgk_decode((const uint8_t *)"AAEG;C,", 7, 1, 0, t, 13);
+    uint32_t *t = malloc(4 * (2 * W + 1));
+    pgk_decoded d = pgk_decode((const uint8_t *)"AAEG;C,", 7, 1, 0, t, 2 * W + 1);
     uint32_t sum = 0;
-    for (size_t i = 0; i < 6 * d.tokens; i++) sum += t[i];
-    check(d.code == 0 && d.tokens == 2 && sum == 0 + 2 + 3 + none + 1 + 1 + 2 + 3 + none + none, "a table that was never set");
+    for (size_t i = 0; i < W * d.tokens; i++) sum += t[i];
+    check(d.code == 0 && d.tokens == 2 && sum == 0 + 2 + 3 + none + 1 + 1 + 2 + 3 + none + none + 5, "a table that was never set");
     free(t);
+}
+
+/* Which lengths are tables: multiples of the width, and not of the six numbers that a token had before. */
+static void widths(void) {
+    uint32_t table[6 * W] = { 0 }, result[6 * W], added = 0;
+    uint8_t byte[128];
+    size_t end = 0;
+    int ok = 1;
+    for (size_t n = 0; n <= 6 * W; n++) {
+        uint64_t code = n % 7 == 0 ? PGK_DONE : PGK_BAD_TABLE;
+        ok &= pgk_encode(table, n, pgk_first_chunk((uint32_t)(n / 7)), byte, sizeof byte).code == code && pgk_lookup(table, n, 0, 0).code == code;
+        ok &= pgk_translate(table, n, 0, 0, 0).code == code && pgk_meets_premises(table, n, 1, 1) == (code == PGK_DONE);
+        ok &= pgk_meets_checked_premises(table, n, 1, 1) == (code == PGK_DONE);
+        ok &= pgk_compose(table, n, 1, byte, 0, &end, 0, table, 0, byte, 0, &end, 0, result, 6 * W, &added, 1).code == code;
+        ok &= pgk_compose(table, 0, 1, byte, 0, &end, 0, table, n, byte, 0, &end, 0, result, 6 * W, &added, 1).code == code;
+    }
+    check(ok, "BadTable for 6 and 12 numbers and all that is no multiple of 7");
+}
+
+/* A segment at the last byte that a token can name, and at the next. One piece of memory is mapped again and again for the commas, so
+ * that 4 GiB of text take 2 MiB, and each text has a process of its own, with pages of its own for what it changes. */
+static void late(void) {
+    static const struct { uint8_t first, last; size_t len; pgk_decoded want; uint32_t segment; const char *what; } rows[] = {
+        { ',', 'C', 4294967295, { PGK_DONE, 0, 1, 4294967295 }, 4294967294u, "a segment at byte 4294967294" },
+        { 'C', 'C', 4294967296, { PGK_TOO_BIG, 1, 1, 4294967295 }, 0, "TooBig at byte 4294967295, before TableFull" },
+        { 'C', '!', 4294967296, { PGK_VLQ_LEFTOVER, 0, 1, 4294967296 }, 0, "and after what is wrong with the segment" },
+    };
+    enum { PIECE = 2097152, TEXTS = sizeof rows / sizeof *rows };
+    size_t most = 4294967296;
+    int file = memfd_create("commas", 0);
+    uint8_t *text = mmap(NULL, most, PROT_NONE, MAP_PRIVATE | MAP_ANONYMOUS | MAP_NORESERVE, -1, 0), *commas = malloc(PIECE);
+    memset(commas, ',', PIECE);
+    int ready = (void *)text != MAP_FAILED && write(file, commas, PIECE) == PIECE;
+    for (size_t at = 0; ready && at < most; at += PIECE)
+        ready = mmap(text + at, PIECE, PROT_READ | PROT_WRITE, MAP_PRIVATE | MAP_FIXED, file, 0) == text + at;
+    if (!ready) { printf("no text of 4 GiB\n"); exit(2); }
+    pid_t child[TEXTS];
+    for (size_t i = 0; i < TEXTS; i++) {
+        if ((child[i] = fork()) != 0) continue;
+        uint32_t table[W];
+        text[0] = rows[i].first;
+        text[rows[i].len - 1] = rows[i].last;
+        pgk_decoded d = pgk_decode(text, rows[i].len, 0, 0, table, W);
+        _exit(!same_decoded(d, rows[i].want) || table[6] != rows[i].segment);
+    }
+    for (size_t i = 0; i < TEXTS; i++) {
+        int status = 1;
+        check(waitpid(child[i], &status, 0) == child[i] && status == 0, rows[i].what);
+    }
+    munmap(text, most);
+    close(file);
+    free(commas);
 }
 
 int main(int argc, char **argv) {
@@ -832,6 +930,8 @@ int main(int argc, char **argv) {
     empty();
     too_many();
     unset();
+    widths();
+    if (argc > 2 && strcmp(argv[2], "long") == 0) late();
     printf("%u passed, %u failed\n", passed, failed);
     return failed != 0;
 }

@@ -15,6 +15,7 @@ int main(void) {
     FIELD(pgk_token, src_col);
     FIELD(pgk_token, source_id);
     FIELD(pgk_token, name_id);
+    FIELD(pgk_token, segment);
     TYPE(pgk_chunk);
     FIELD(pgk_chunk, start);
     FIELD(pgk_chunk, end);

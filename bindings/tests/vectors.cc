@@ -32,6 +32,7 @@ int main() {
 
     d = decoded({ 'A', 'A', 'E', 'G', ';', 'C', ';' }, table);
     check(d.code == PGK_DONE && d.tokens == 2 && d.offset == 7, "two tokens");
+    check(table[6] == 0 && table[PGK_WIDTH + 6] == 5, "where their segments begin");
     check(pgk_meets_premises(lent(table), table.size(), 1, 0) == 1, "their premises");
     check(pgk_meets_checked_premises(lent(table), table.size(), 1, 0) == 1, "those of checked mode");
     std::vector<uint8_t> out(36 * d.tokens + 1);

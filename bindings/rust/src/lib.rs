@@ -31,16 +31,24 @@
 //! refused map must not be looked up, although the tokens before the refused segment are in the table.
 //!
 //! # Tables
-//! A table is a list of `u32`, six a token, in the order of [`Token`]'s fields. [`NONE`] as an id means none.
-//! A table that is read must have a multiple of six numbers and at most 4,294,967,294 tokens, or else
-//! [`Refusal::BadTable`]. A table that is written has places for its length divided by six, rounded down.
+//! A table is a list of `u32`, [`WIDTH`] a token, in the order of [`Token`]'s fields. [`NONE`] as an id means none.
+//! A table that is read must have a multiple of [`WIDTH`] numbers and at most 4,294,967,294 tokens, or else
+//! [`Refusal::BadTable`]. A table that is written has places for its length divided by [`WIDTH`], rounded down.
 //! One token for each `,` and `;` of a text and one more are always enough to decode it; [`table_size`] counts
 //! what it needs. [`written`] cuts off the places that were not written, which a lookup would find too.
 //! [`tokens_of`] and [`table_of`] see one as the other, without a copy.
 //!
+//! # Segments
+//! A token's [`segment`](Token::segment) says which piece of text gave it: the bytes from that offset on, up to the next `,`
+//! or `;` or the text's end. Decoding sets it, [`translate`] keeps it, [`compose`] takes the outer token's; the writer, the
+//! lookup and the premises pass it over, and on input it may be any number. It is an offset into the text that the token was
+//! decoded from, and no table says which that was. Joined tables hold offsets into the text of each part, a composed one
+//! into the outer map's text, and none of them into the text that [`serialize_mappings`] writes. Keep those texts, and which
+//! part a token is of, to point into them.
+//!
 //! # Writing back
 //! A text that was decoded and is written again comes back without the `;` at its end and without empty segments:
-//! no token tells of them. Whether a table that was made, translated or composed reads back as it was written,
+//! no token tells of them. So its segments begin elsewhere, and [`Token::same_mapping`] compares without them. Whether a table that was made, translated or composed reads back as it was written,
 //! [`meets_premises`] says for lenient mode, and [`meets_checked_premises`] for both.
 //!
 //! # Cost
@@ -72,7 +80,7 @@ pub use refusal::{Refusal, Stop};
 pub use token::{table_of, table_of_mut, tokens_of, written, Token, TokenChunk, NONE, WIDTH};
 
 /// The version of this crate: major × 1,000,000 + minor × 1,000 + patch.
-pub const VERSION: u64 = 5000;
+pub const VERSION: u64 = 6000;
 
 /// The version of the archive that was linked. Where it is not [`VERSION`], `PEGHAYRICK_LIB_DIR` named another version's.
 ///
@@ -113,8 +121,8 @@ fn answered(a: raw::Answer) -> Result<u64, Refusal> {
 /// Never more than one token for each `,` and `;` and one more. It reads the text once.
 ///
 /// ```
-/// use peghayrick::{decode_mapping, table_size, Decoded};
-/// assert_eq!(table_size(b"AAEG;,;C;"), 12);
+/// use peghayrick::{decode_mapping, table_size, Decoded, WIDTH};
+/// assert_eq!(table_size(b"AAEG;,;C;"), 2 * WIDTH);
 /// let mut table = vec![0u32; table_size(b"AAEG;,;C;")];
 /// assert_eq!(decode_mapping(b"AAEG;,;C;", 1, 0, &mut table), Ok(Decoded { tokens: 2, offset: 9 }));
 /// ```
@@ -133,15 +141,16 @@ pub fn table_size(text: &[u8]) -> usize {
 /// Before 0.5.0 this was [`decode_lenient`]: who wants those answers, which are oxc_sourcemap's, calls that by name.
 ///
 /// ```
-/// use peghayrick::{decode_lenient, decode_mapping, tokens_of, Decoded, Refusal, Stop, Token};
-/// let mut table = [0u32; 12];
+/// use peghayrick::{decode_lenient, decode_mapping, tokens_of, Decoded, Refusal, Stop, Token, WIDTH};
+/// let mut table = [0u32; 2 * WIDTH];
 /// assert_eq!(decode_mapping(b"AAEG;C", 1, 0, &mut table), Ok(Decoded { tokens: 2, offset: 6 }));
-/// assert_eq!(tokens_of(&table), [Token::new(0, 0, 2, 3, Some(0), None), Token::new(1, 1, 2, 3, None, None)]);
+/// let wash = Token::new(0, 0, 2, 3, Some(0), None).with_segment(Some(0));
+/// assert_eq!(tokens_of(&table), [wash, Token::new(1, 1, 2, 3, None, None).with_segment(Some(5))]);
 ///
 /// // A refusal says where: here a digit is due at the text's end. The tokens before the segment are in the table.
 /// let refusal = decode_mapping(b"AAEG;AAAA,!", 1, 0, &mut table).unwrap_err();
 /// assert_eq!(refusal, Refusal::VlqLeftover { at: Stop { tokens: 2, offset: 11 } });
-/// assert_eq!(tokens_of(&table)[1], Token::new(1, 0, 2, 3, Some(0), None));
+/// assert_eq!(tokens_of(&table)[1], Token { dst_line: 1, segment: 5, ..wash });
 ///
 /// // A column of 2^31 in one step: no bundle has it, and oxc_sourcemap takes it.
 /// let refusal = decode_mapping(b"ggggggE", 0, 0, &mut table).unwrap_err();
@@ -153,8 +162,9 @@ pub fn table_size(text: &[u8]) -> usize {
 /// The first that applies in a segment: [`VlqLeftover`](Refusal::VlqLeftover), [`VlqOverflow`](Refusal::VlqOverflow),
 /// [`WideValue`](Refusal::WideValue), [`BadSegmentSize`](Refusal::BadSegmentSize),
 /// [`BadSourceReference`](Refusal::BadSourceReference), [`BadNameReference`](Refusal::BadNameReference),
-/// [`TableFull`](Refusal::TableFull). `WideValue` stands there for one of the segment's first five values, once they are all
-/// read; for a sum it comes after the sum's own test below 0.
+/// [`TooBig`](Refusal::TooBig), [`TableFull`](Refusal::TableFull). `WideValue` stands there for one of the segment's first five
+/// values, once they are all read; for a sum it comes after the sum's own test below 0. `TooBig` is a good segment that begins
+/// at byte 4,294,967,295 or later, where no token can say so.
 pub fn decode_mapping(mappings: &[u8], sources: u32, names: u32, table: &mut [u32]) -> Result<Decoded, Refusal> {
     // SAFETY: each slice is lent with its own pointer and length for the call; the two cannot overlap.
     decoded(unsafe { raw::pgk_decode(mappings.as_ptr(), mappings.len(), sources, names, table.as_mut_ptr(), table.len()) })
@@ -167,7 +177,7 @@ pub fn decode_mapping(mappings: &[u8], sources: u32, names: u32, table: &mut [u3
 /// other positions.
 ///
 /// ```
-/// let mut table = [7u32; 6];
+/// let mut table = [7u32; peghayrick::WIDTH];
 /// assert!(peghayrick::decode_lenient(b"ggggggI", 0, 0, &mut table).is_ok());
 /// assert_eq!(table[1], 0);
 /// ```
@@ -184,8 +194,8 @@ pub fn decode_lenient(mappings: &[u8], sources: u32, names: u32, table: &mut [u3
 /// Decodes as [`decode_mapping`] does, by name.
 ///
 /// ```
-/// use peghayrick::{decode_checked, decode_lenient, Refusal, Stop};
-/// let mut table = [7u32; 18];
+/// use peghayrick::{decode_checked, decode_lenient, tokens_of, Refusal, Stop, WIDTH};
+/// let mut table = [7u32; 3 * WIDTH];
 /// // The largest value, 2^31 - 1, and the next.
 /// assert!(decode_checked(b"+/////D", 0, 0, &mut table).is_ok());
 /// let refusal = decode_checked(b"ggggggE", 0, 0, &mut table).unwrap_err();
@@ -199,9 +209,9 @@ pub fn decode_lenient(mappings: &[u8], sources: u32, names: u32, table: &mut [u3
 /// let refusal = decode_checked(b"B", 0, 0, &mut table).unwrap_err();
 /// assert_eq!(refusal, Refusal::BadSegmentSize { fields: 0, at: Stop { tokens: 0, offset: 0 } });
 /// assert!(decode_checked(b"+/////D,C,B", 0, 0, &mut table).is_ok());
-/// assert_eq!(table[13], 0);
+/// assert_eq!(tokens_of(&table)[2].dst_col, 0);
 /// assert!(decode_lenient(b"+/////D,C,B", 0, 0, &mut table).is_ok());
-/// assert_eq!(table[13], 1 << 31);
+/// assert_eq!(tokens_of(&table)[2].dst_col, 1 << 31);
 /// ```
 ///
 /// # Errors
@@ -223,7 +233,7 @@ pub struct Encoded {
 }
 
 /// Writes a chunk of a table as mappings. Bytes past the count are kept. A text that was decoded comes back without
-/// the `;` at its end and without empty segments.
+/// the `;` at its end and without empty segments. The segment of a token is not read.
 ///
 /// ```
 /// use peghayrick::{serialize_mappings, table_of, Refusal, Token, TokenChunk};
@@ -261,12 +271,12 @@ pub fn serialize_mappings(table: &[u32], chunk: TokenChunk, out: &mut [u8]) -> R
 }
 
 /// Whether what [`serialize_mappings`] writes of the whole table surely reads back, by [`decode_lenient`] and these counts, as
-/// that table: lines do not go back, ids are none or below their counts, no name stands without a source, and a token
-/// without a source repeats the source position of the latest token with one (0, 0 before any). `false` for a bad table.
+/// that table but for the segments: lines do not go back, ids are none or below their counts, no name stands without a
+/// source, and a token without a source repeats the source position of the latest token with one (0, 0 before any). `false`
+/// for a bad table.
 ///
-/// A table that was decoded by these counts should meet them, unless its text has 2^32 `;` or gives more than
-/// 4,294,967,294 tokens: that is no theorem, so ask. One that was made, translated or
-/// composed need not.
+/// A table that was decoded by these counts should meet them: that is no theorem, so ask. One that was made, translated or
+/// composed need not. Of more than 4,294,967,295 bytes nothing is said: there [`TooBig`](Refusal::TooBig) may be the answer.
 ///
 /// ```
 /// use peghayrick::{meets_premises, table_of, Token};
@@ -325,14 +335,15 @@ pub fn meets_checked_premises(table: &[u32], sources: u32, names: u32) -> bool {
     unsafe { raw::pgk_meets_checked_premises(table.as_ptr(), table.len(), sources, names) == 1 }
 }
 
-/// Adds `line_offset` to each generated line, and the other offsets to each id that is not none.
+/// Adds `line_offset` to each generated line, and the other offsets to each id that is not none. Each segment is kept: it is an
+/// offset into the text that this table was decoded from, also behind the tokens of other texts.
 ///
 /// ```
 /// use peghayrick::{translate, Refusal, NONE};
-/// let mut table = [0, 5, 2, 3, 0, NONE];
+/// let mut table = [0, 5, 2, 3, 0, NONE, 17];
 /// assert_eq!(translate(&mut table, 10, 2, 2), Ok(()));
-/// assert_eq!(table, [10, 5, 2, 3, 2, NONE]);
-/// assert_eq!(translate(&mut table, 0, NONE - 2, 0), Err(Refusal::TooBig { index: 0 }));
+/// assert_eq!(table, [10, 5, 2, 3, 2, NONE, 17]);
+/// assert_eq!(translate(&mut table, 0, NONE - 2, 0), Err(Refusal::TooBig { index: 0, at: None }));
 /// assert_eq!(translate(&mut table[..5], 0, 0, 0), Err(Refusal::BadTable));
 /// ```
 ///
@@ -420,14 +431,15 @@ pub struct Composed {
 /// Composes two maps: `outer`, from generated to intermediate code, and `inner`, from there to the source.
 ///
 /// One result token is written for each outer token. Its name id counts the inner names, then the added
-/// ones: `added` takes, in order, the ids of the outer names that were added. [`name_of`] reads them.
+/// ones: `added` takes, in order, the ids of the outer names that were added. [`name_of`] reads them. Its segment is the outer
+/// token's, also where it is left without a source: an offset into the text of `outer`, and never into that of `inner`.
 ///
 /// The time grows with the product of both tables: see the crate's page, under Cost.
 ///
 /// ```
 /// use peghayrick::{compose, name_of, table_of, table_of_mut, Names, Refusal, Token};
-/// let outer = [Token::new(0, 9, 0, 4, Some(0), Some(0)), Token::new(1, 0, 7, 7, Some(0), None)];
-/// let inner = [Token::new(0, 3, 20, 2, Some(1), None)];
+/// let outer = [Token::new(0, 9, 0, 4, Some(0), Some(0)).with_segment(Some(5)), Token::new(1, 0, 7, 7, Some(0), None)];
+/// let inner = [Token::new(0, 3, 20, 2, Some(1), None).with_segment(Some(8))];
 /// let outer_names = Names { text: b"wash", ends: &[4] };
 /// let inner_names = Names { text: b"spin", ends: &[4] };
 ///
@@ -435,7 +447,8 @@ pub struct Composed {
 /// let mut added = [0u32; 1];
 /// let done = compose(table_of(&outer), 1, outer_names, table_of(&inner), inner_names, table_of_mut(&mut result), &mut added)?;
 ///
-/// assert_eq!(result, [Token::new(0, 9, 20, 2, Some(1), Some(1)), Token::new(1, 0, 0, 0, None, None)]);
+/// let found = Token::new(0, 9, 20, 2, Some(1), Some(1)).with_segment(Some(5));
+/// assert_eq!(result, [found, Token::new(1, 0, 0, 0, None, None)]);
 /// assert_eq!(name_of(inner_names, outer_names, &added[..done.added], 1), Some(&b"wash"[..]));
 /// # Ok::<(), Refusal>(())
 /// ```

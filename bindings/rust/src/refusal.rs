@@ -8,7 +8,7 @@ pub struct Stop {
     /// How many tokens were written: those before the refused segment.
     pub tokens: usize,
     /// The byte at fault: where a digit was due (VlqLeftover), the fourteenth digit (VlqOverflow), the first digit of the field
-    /// that falls below 0, refers to nothing or is too wide, or the first digit of the segment (a wrong count, TableFull).
+    /// that falls below 0, refers to nothing or is too wide, or the first digit of the segment (a wrong count, TooBig, TableFull).
     /// The refused segment begins behind the last `,` or `;` before it, or with the text where there is none.
     pub offset: usize,
 }
@@ -88,12 +88,15 @@ pub enum Refusal {
     },
     /// 10: not start ≤ end ≤ token count.
     BadChunk,
-    /// 11: the table's length is not a multiple of six, or it has more than 4,294,967,294 tokens.
+    /// 11: the table's length is not a multiple of [`WIDTH`](crate::WIDTH), or it has more than 4,294,967,294 tokens.
     BadTable,
-    /// 12: a translated line or id leaves its range.
+    /// 12: a translated line or id leaves its range, or a decoded segment begins at byte 4,294,967,295 or later, where no
+    /// token can say so.
     TooBig {
         /// The index of the first such token.
         index: u64,
+        /// Where the decode stopped; `None` from [`translate`](crate::translate).
+        at: Option<Stop>,
     },
     /// 13: the outer map has more than one source.
     MoreThanOneSource,
@@ -127,7 +130,7 @@ impl Refusal {
             (9, None) => LineGoesBack { index: number },
             (10, None) => BadChunk,
             (11, None) => BadTable,
-            (12, None) => TooBig { index: number },
+            (12, at) => TooBig { index: number, at },
             (13, None) => MoreThanOneSource,
             (14, None) => BadNames,
             _ => Unknown { code, number },
@@ -178,7 +181,7 @@ impl Refusal {
             | BadSourceReference { source_id: n, .. }
             | BadNameReference { name_id: n, .. }
             | WideValue { field: n, .. } => n as u64,
-            NoRoom { needed: n } | LineGoesBack { index: n } | TooBig { index: n } | Unknown { number: n, .. } => n,
+            NoRoom { needed: n } | LineGoesBack { index: n } | TooBig { index: n, .. } | Unknown { number: n, .. } => n,
             VlqLeftover { .. } | VlqOverflow { .. } | TableFull { .. } | BadChunk | BadTable | MoreThanOneSource | BadNames => 0,
         }
     }
@@ -192,7 +195,7 @@ impl Refusal {
             | BadSourceReference { at, .. }
             | BadNameReference { at, .. }
             | WideValue { at, .. } => Some(at),
-            TableFull { at } => at,
+            TableFull { at } | TooBig { at, .. } => at,
             _ => None,
         }
     }
@@ -231,8 +234,8 @@ const WORDS: [&str; 15] = [
     "there is too little room: lend as many places as the number says and call again",
     "a token is on a line below that of the token before it: sort the tokens by generated line, or begin the chunk with the state that the chunk before it returned",
     "the chunk does not lie within the table: its start must be at most its end, and its end at most the number of tokens",
-    "the table does not hold whole tokens, or holds more than 4294967294: hand in six numbers a token, and only the tokens that were written",
-    "a line or an id would become too large, and nothing was moved: use smaller offsets, or join fewer maps",
+    "the table does not hold whole tokens, or holds more than 4294967294: hand in WIDTH numbers a token, and only the tokens that were written",
+    "a line or an id would become too large, or a segment begins at byte 4294967295 or later: to translate, use smaller offsets or join fewer maps (nothing was moved); to decode, build the bundle in parts, each with its own map",
     "the outer map has more than one source: compose only a map of a single input with that input's map",
     "a name list is broken: its ends must not fall, the last must lie within the text, and at most 2147483647 names are taken",
     "the code is unknown: link the libpeghayrick.a that belongs to this version",
@@ -273,8 +276,11 @@ impl fmt::Display for Refusal {
                 write!(f, "token {index} is on a line below that of the token before it ({name}); sort the tokens by generated line, or begin the chunk with the state that the chunk before it returned")
             }
             BadChunk => write!(f, "the chunk does not lie within the table ({name}); its start must be at most its end, and its end at most the number of tokens"),
-            BadTable => write!(f, "the table does not hold whole tokens, or more than 4294967294 of them ({name}); hand in six numbers a token, and only the tokens that were written"),
-            TooBig { index } => write!(f, "the line or an id of token {index} becomes too large ({name}); nothing was moved: use smaller offsets, or join fewer maps"),
+            BadTable => write!(f, "the table does not hold whole tokens, or more than 4294967294 of them ({name}); hand in WIDTH numbers a token, and only the tokens that were written"),
+            TooBig { index, at: Some(at) } => {
+                write!(f, "the map is too long: the segment of token {index} begins at byte {}, past 4294967294 ({name}); build the bundle in parts, each with its own map", at.offset)
+            }
+            TooBig { index, at: None } => write!(f, "the line or an id of token {index} becomes too large ({name}); nothing was moved: use smaller offsets, or join fewer maps"),
             MoreThanOneSource => write!(f, "the outer map has more than one source ({name}); only a map of a single input can be composed with that input's map"),
             BadNames => write!(f, "a name list is broken ({name}); its ends must not fall, the last must lie within the text, and at most 2147483647 names are taken"),
             _ => write!(f, "unknown code {} with {}; link the libpeghayrick.a that belongs to this crate", self.code(), self.number()),
@@ -283,3 +289,23 @@ impl fmt::Display for Refusal {
 }
 
 impl core::error::Error for Refusal {}
+
+#[cfg(test)]
+mod tests {
+    extern crate std;
+    use super::*;
+    use std::string::ToString;
+
+    /// Code 12 of both kinds. A text of 4 GiB, which a decode refuses so, is tried in bindings/tests/boundary.c.
+    #[test]
+    fn too_big() {
+        let at = Stop { tokens: 3, offset: 4294967295 };
+        let late = Refusal::new(12, 3, Some(at));
+        assert_eq!(late, TooBig { index: 3, at: Some(at) });
+        assert_eq!((late.code(), late.number(), late.at(), late.name()), (12, 3, Some(at), "TooBig"));
+        assert!(late.to_string().contains("the segment of token 3 begins at byte 4294967295"));
+        let moved = Refusal::new(12, 3, None);
+        assert_eq!((moved.code(), moved.number(), moved.at(), moved.name()), (12, 3, None, "TooBig"));
+        assert!(moved.to_string().contains("nothing was moved"));
+    }
+}

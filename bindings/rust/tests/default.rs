@@ -22,7 +22,7 @@ fn wide_values_are_refused() {
         ("+/////D,+/////D,E", 0, at(2, 16)),
         ("AAAAA,AA+/////DA,AA+/////DA,AAEA", 2, at(3, 30)),
     ] {
-        let mut table = [0; 24];
+        let mut table = [0; 4 * WIDTH];
         let wide = Refusal::WideValue { field, at: stop };
         assert_eq!(decode_mapping(text.as_bytes(), 1, 1, &mut table), Err(wide), "{text}");
         assert!(decode_lenient(text.as_bytes(), 1, 1, &mut table).is_ok(), "{text}");
@@ -32,7 +32,7 @@ fn wide_values_are_refused() {
 /// Where lenient mode has another refusal, or other tokens.
 #[test]
 fn other_differences() {
-    let mut table = [0; 18];
+    let mut table = [0; 3 * WIDTH];
     let stop = Stop { tokens: 0, offset: 4 };
     assert_eq!(decode_mapping(b"AAAAD", 1, 1, &mut table), Err(Refusal::WideValue { field: 4, at: stop }));
     assert_eq!(decode_lenient(b"AAAAD", 1, 1, &mut table), Err(Refusal::BadNameReference { name_id: NONE, at: stop }));
@@ -44,12 +44,12 @@ fn other_differences() {
     }
     for (decode, column) in [(decode_mapping as Decode, 0), (decode_lenient, 1 << 31)] {
         assert_eq!(decode(b"+/////D,C,B", 0, 0, &mut table), Ok(Decoded { tokens: 3, offset: 11 }));
-        assert_eq!(table[13], column);
+        assert_eq!(tokens_of(&table)[2].dst_col, column);
     }
     // What lenient mode refuses: its source stays at 2^31, the last, and the next step passes it.
-    let (text, mut table) = (b"A+/////DAA,ACAA,ABAA,ACAA", [0; 24]);
+    let (text, mut table) = (b"A+/////DAA,ACAA,ABAA,ACAA", [0; 4 * WIDTH]);
     assert_eq!(decode_mapping(text, (1 << 31) + 1, 0, &mut table), Ok(Decoded { tokens: 4, offset: 25 }));
-    assert_eq!((table[10], table[16], table[22]), (1 << 31, 0, 1));
+    assert_eq!(tokens_of(&table)[1..].iter().map(|token| token.source_id).collect::<Vec<_>>(), [1 << 31, 0, 1]);
     let past = Refusal::BadSourceReference { source_id: 1 << 31, at: Stop { tokens: 3, offset: 22 } };
     assert_eq!(decode_lenient(text, (1 << 31) + 1, 0, &mut table), Err(past));
 }
@@ -116,7 +116,7 @@ fn as_checked_on_a_swarm() {
         }
         let counts = [0, 1, 2, 1 << 31, NONE];
         let (sources, names) = (counts[random.below(5)], counts[random.below(5)]);
-        let numbers = if random.below(4) == 0 { random.below(60) } else { table_size(&text) + random.below(7) };
+        let numbers = if random.below(4) == 0 { random.below(10 * WIDTH) } else { table_size(&text) + random.below(WIDTH) };
         let by_default = left(decode_mapping, &text, sources, names, numbers);
         assert_eq!(by_default, left(decode_checked, &text, sources, names, numbers), "{text:?}, {sources}, {names}");
         match by_default.0 {

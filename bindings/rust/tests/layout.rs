@@ -23,7 +23,7 @@ macro_rules! layout {
 
 fn rust() -> String {
     let mut out = String::new();
-    layout!(out, "pgk_token", Token: dst_line dst_col src_line src_col source_id name_id);
+    layout!(out, "pgk_token", Token: dst_line dst_col src_line src_col source_id name_id segment);
     layout!(out, "pgk_chunk", TokenChunk: start end prev_dst_line prev_dst_col prev_src_line prev_src_col prev_name_id prev_source_id);
     layout!(out, "pgk_answer", raw::Answer: code number);
     layout!(out, "pgk_decoded", raw::Decoded: code number tokens offset);
@@ -57,7 +57,7 @@ fn refusals() -> [Refusal; 14] {
         Refusal::LineGoesBack { index: 0 },
         Refusal::BadChunk,
         Refusal::BadTable,
-        Refusal::TooBig { index: 0 },
+        Refusal::TooBig { index: 0, at: None },
         Refusal::MoreThanOneSource,
         Refusal::BadNames,
     ]
@@ -96,7 +96,8 @@ fn both_have_the_same_structs_constants_and_words() {
 /// The sizes by number, so that both sides cannot move together.
 #[test]
 fn sizes() {
-    assert_eq!((size_of::<Token>(), size_of::<TokenChunk>()), (24, 32));
+    assert_eq!((size_of::<Token>(), offset_of!(Token, segment), WIDTH), (28, 24, 7));
+    assert_eq!(size_of::<TokenChunk>(), 32);
     assert_eq!((size_of::<raw::Answer>(), size_of::<raw::Decoded>(), size_of::<raw::Encoded>()), (16, 32, 56));
     assert_eq!((size_of::<raw::Composed>(), size_of::<raw::Name>()), (24, 32));
 }

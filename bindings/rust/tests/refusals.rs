@@ -7,11 +7,11 @@ const AT: Stop = Stop { tokens: 1, offset: 5 };
 /// Decodes `AAAA,` and the segment into a table of two places, in checked mode or not.
 fn second(segment: &str, checked: bool) -> Refusal {
     let text = format!("AAAA,{segment}");
-    let mut table = [7u32; 13];
+    let mut table = [7u32; 2 * WIDTH + 1];
     let decode = if checked { decode_checked } else { decode_lenient };
     let refusal = decode(text.as_bytes(), 1, 1, &mut table).unwrap_err();
-    assert_eq!(table[..6], [0, 0, 0, 0, 0, NONE]);
-    assert_eq!(table[6..], [7; 7]);
+    assert_eq!(table[..WIDTH], [0, 0, 0, 0, 0, NONE, 0]);
+    assert_eq!(table[WIDTH..], [7; WIDTH + 1]);
     refusal
 }
 
@@ -27,10 +27,10 @@ fn holds(refusal: Refusal, want: Refusal, code: u64, number: u64, at: Option<Sto
 
 #[test]
 fn done() {
-    let mut table = [0u32; 6];
+    let mut table = [7u32; WIDTH];
     assert_eq!(decode_mapping(b"", 0, 0, &mut []), Ok(Decoded { tokens: 0, offset: 0 }));
     assert_eq!(decode_mapping(b"A", 0, 0, &mut table), Ok(Decoded { tokens: 1, offset: 1 }));
-    assert_eq!(table, [0, 0, 0, 0, NONE, NONE]);
+    assert_eq!(table, [0, 0, 0, 0, NONE, NONE, 0]);
 }
 
 #[test]
@@ -85,7 +85,7 @@ fn decoding() {
         assert_eq!(second(segment, true), want, "{segment}");
         assert_eq!(want.number(), number);
     }
-    let full = decode_mapping(b"AAAA,A", 1, 0, &mut [7; 11]).unwrap_err();
+    let full = decode_mapping(b"AAAA,A", 1, 0, &mut [7; 2 * WIDTH - 1]).unwrap_err();
     holds(full, Refusal::TableFull { at: Some(AT) }, 7, 0, Some(AT), "as many numbers as table_size counts");
 }
 
@@ -98,7 +98,9 @@ fn writing() {
     holds(write(table, TokenChunk::first(1), 1), Refusal::NoRoom { needed: 2 }, 8, 2, None, "2 places are needed");
     holds(write(table, TokenChunk::first(2), 4), Refusal::LineGoesBack { index: 1 }, 9, 1, None, "token 1");
     holds(write(table, TokenChunk::first(3), 4), Refusal::BadChunk, 10, 0, None, "chunk");
-    holds(write(&table[..7], TokenChunk::first(1), 4), Refusal::BadTable, 11, 0, None, "six numbers a token");
+    for numbers in [1, 6, 8, 12, 13] {
+        holds(write(&table[..numbers], TokenChunk::first(1), 4), Refusal::BadTable, 11, 0, None, "WIDTH numbers a token");
+    }
     assert_eq!(&out, b"####");
 }
 
@@ -107,12 +109,20 @@ fn translating() {
     let mut tokens = [Token::new(0, 0, 0, 0, None, None), Token::new(0, 0, 0, 0, Some(NONE - 1), None)];
     let before = tokens;
     let refusal = translate_tokens(&mut tokens, 0, 1, 0).unwrap_err();
-    holds(refusal, Refusal::TooBig { index: 1 }, 12, 1, None, "token 1");
+    holds(refusal, Refusal::TooBig { index: 1, at: None }, 12, 1, None, "token 1");
     let refusal = translate(table_of_mut(&mut tokens), NONE, 1, 0).unwrap_err();
-    holds(refusal, Refusal::TooBig { index: 1 }, 12, 1, None, "nothing was moved");
+    holds(refusal, Refusal::TooBig { index: 1, at: None }, 12, 1, None, "nothing was moved");
     assert_eq!(tokens, before);
-    assert_eq!(translate(&mut [0; 5], 0, 0, 0), Err(Refusal::BadTable));
-    assert_eq!(lookup_token(&[0; 5], 0, 0), Err(Refusal::BadTable));
+    // Tables of 0.5.0, six numbers a token, among them.
+    for numbers in [1, 6, 8, 12, 13, 36] {
+        assert_eq!(translate(&mut vec![0; numbers], 0, 0, 0), Err(Refusal::BadTable), "{numbers}");
+        assert_eq!(lookup_token(&vec![0; numbers], 0, 0), Err(Refusal::BadTable), "{numbers}");
+        assert!(!meets_premises(&vec![0; numbers], 1, 1) && !meets_checked_premises(&vec![0; numbers], 1, 1), "{numbers}");
+    }
+    for numbers in [0, 7, 14, 42] {
+        assert_eq!(translate(&mut vec![0; numbers], 0, 0, 0), Ok(()), "{numbers}");
+        assert!(lookup_token(&vec![0; numbers], 0, 0).is_ok() && meets_premises(&vec![0; numbers], 1, 1), "{numbers}");
+    }
     assert_eq!(translate_tokens(&mut [], NONE, NONE, NONE), Ok(()));
 }
 
@@ -122,22 +132,22 @@ fn composing() {
     let outer = table_of(&outer);
     let names = Names { text: b"ab", ends: &[1, 2] };
     let none = Names::default();
-    let mut result = [7u32; 7];
+    let mut result = [7u32; WIDTH + 1];
     let mut added = [7u32; 2];
     let mut call = |outer: &[u32], sources, names, inner: &[u32], places: usize, room: usize| {
         compose(outer, sources, names, inner, none, &mut result[..places], &mut added[..room]).unwrap_err()
     };
-    holds(call(outer, 2, names, outer, 7, 2), Refusal::MoreThanOneSource, 13, 0, None, "more than one source");
-    holds(call(&outer[1..], 1, names, outer, 7, 2), Refusal::BadTable, 11, 0, None, "whole tokens");
-    holds(call(outer, 1, names, &outer[1..], 7, 2), Refusal::BadTable, 11, 0, None, "whole tokens");
-    holds(call(outer, 1, Names { text: b"ab", ends: &[1, 3] }, outer, 7, 2), Refusal::BadNames, 14, 0, None, "name list");
-    holds(call(outer, 1, Names { text: b"ab", ends: &[2, 1] }, outer, 7, 2), Refusal::BadNames, 14, 0, None, "name list");
-    holds(call(outer, 1, names, outer, 5, 2), Refusal::TableFull { at: None }, 7, 0, None, "outer table");
-    holds(call(outer, 1, names, outer, 7, 1), Refusal::NoRoom { needed: 2 }, 8, 2, None, "2 places");
-    assert_eq!((result, added), ([7; 7], [7; 2]));
+    holds(call(outer, 2, names, outer, WIDTH, 2), Refusal::MoreThanOneSource, 13, 0, None, "more than one source");
+    holds(call(&outer[1..], 1, names, outer, WIDTH, 2), Refusal::BadTable, 11, 0, None, "whole tokens");
+    holds(call(outer, 1, names, &outer[1..], WIDTH, 2), Refusal::BadTable, 11, 0, None, "whole tokens");
+    holds(call(outer, 1, Names { text: b"ab", ends: &[1, 3] }, outer, WIDTH, 2), Refusal::BadNames, 14, 0, None, "name list");
+    holds(call(outer, 1, Names { text: b"ab", ends: &[2, 1] }, outer, WIDTH, 2), Refusal::BadNames, 14, 0, None, "name list");
+    holds(call(outer, 1, names, outer, WIDTH - 1, 2), Refusal::TableFull { at: None }, 7, 0, None, "outer table");
+    holds(call(outer, 1, names, outer, WIDTH, 1), Refusal::NoRoom { needed: 2 }, 8, 2, None, "2 places");
+    assert_eq!((result, added), ([7; WIDTH + 1], [7; 2]));
     let done = compose(outer, 1, names, outer, none, &mut result, &mut added);
     assert_eq!(done, Ok(Composed { added: 0 }));
-    assert_eq!(result, [0, 0, 0, 0, 0, 0, 7]);
+    assert_eq!(result, [0, 0, 0, 0, 0, 0, NONE, 7]);
     assert_eq!(name_of(Names { text: b"", ends: &[1] }, none, &[], 0), None);
     assert_eq!(name_of(none, names, &[1], 0), Some(&b"b"[..]));
     assert_eq!(name_of(none, names, &[2], 0), None);
@@ -161,9 +171,9 @@ fn nothing_lent() {
 /// Tables cut at every place: four-byte alignment is enough.
 #[test]
 fn any_alignment() {
-    let mut numbers = [0u32; 16];
+    let mut numbers = [0u32; 2 * WIDTH + 4];
     for start in 0..4 {
-        let table = &mut numbers[start..start + 12];
+        let table = &mut numbers[start..start + 2 * WIDTH];
         assert_eq!(decode_mapping(b"AAEG;C", 1, 0, table), Ok(Decoded { tokens: 2, offset: 6 }));
         assert_eq!(lookup_index(table, 1, 1), Ok(Some(1)));
         assert_eq!(translate_tokens(&mut [tokens_of(table)[1]], 1, 1, 1), Ok(()));

@@ -9,7 +9,8 @@
 //! use peghayrick_map::{Map, Step};
 //! let json = r#"{"version":3,"sources":["wash.js"],"names":["spin"],"mappings":"AAEGA;C;"}"#;
 //! let map = Map::from_json_string(json)?;
-//! assert_eq!(map.lookup(0, 7)?, Some(Step { source: "wash.js", line: 2, column: 3, name: Some("spin") }));
+//! let step = Step { source: "wash.js", line: 2, column: 3, name: Some("spin"), mappings: ["", "AAEGA", ""] };
+//! assert_eq!(map.lookup(0, 7)?, Some(step));
 //! assert_eq!(map.lookup(1, 7)?, None);
 //! assert_eq!(map.to_json_string()?, r#"{"version":3,"names":["spin"],"sources":["wash.js"],"mappings":"AAEGA;C"}"#);
 //! # Ok::<(), peghayrick_map::Error>(())
@@ -19,7 +20,7 @@ use peghayrick::{decode_mapping, lookup_token, serialize_mappings, table_size, t
 use serde::{Deserialize, Serialize};
 use std::fmt;
 
-/// A source map: its lists, and the table of its tokens.
+/// A source map: its lists, its mappings as they were read, and the table of their tokens.
 #[derive(Debug, Clone, PartialEq, Eq)]
 pub struct Map {
     /// The name of the generated file.
@@ -36,6 +37,7 @@ pub struct Map {
     pub ignore_list: Option<Vec<u32>>,
     /// The id that ties the map to its file.
     pub debug_id: Option<String>,
+    text: String,
     table: Vec<u32>,
 }
 
@@ -50,6 +52,17 @@ pub struct Step<'a> {
     pub column: u32,
     /// The name, where the token has one.
     pub name: Option<&'a str>,
+    /// The line of mappings that says so, from `;` to `;`: what stands before the token's segment, the segment, and what stands
+    /// behind it.
+    pub mappings: [&'a str; 3],
+}
+
+/// The line of mappings that a segment stands in, cut before and behind it.
+fn around(text: &str, segment: usize) -> Option<[&str; 3]> {
+    let (before, rest) = text.split_at_checked(segment)?;
+    let rest = rest.split(';').next()?;
+    let (segment, behind) = rest.split_at(rest.find(',').unwrap_or(rest.len()));
+    Some([before.rsplit(';').next()?, segment, behind])
 }
 
 /// Why a map was not taken, or not written.
@@ -173,11 +186,12 @@ impl Map {
             names: read.names,
             ignore_list,
             debug_id: read.debug_id,
+            text: read.mappings,
             table,
         })
     }
 
-    /// The tokens, in the order of the mappings.
+    /// The tokens, in the order of the mappings. Their segments are offsets into the mappings as they were read.
     pub fn tokens(&self) -> &[Token] {
         tokens_of(&self.table)
     }
@@ -186,7 +200,7 @@ impl Map {
     /// source. Each call reads the line of every token.
     ///
     /// # Errors
-    /// [`Error::Refused`] past 4,294,967,294 tokens.
+    /// [`Error::Refused`], which no table that was decoded brings about.
     pub fn lookup(&self, line: u32, column: u32) -> Result<Option<Step<'_>>, Error> {
         let token = lookup_token(&self.table, line, column)?;
         Ok(token.and_then(|token| {
@@ -195,6 +209,7 @@ impl Map {
                 line: token.src_line,
                 column: token.src_col,
                 name: token.get_name_id().and_then(|id| self.names.get(id as usize)).map(String::as_str),
+                mappings: around(&self.text, token.segment()? as usize)?,
             })
         }))
     }
@@ -203,7 +218,7 @@ impl Map {
     /// of -2^31, which minus zero is, is written as a value that checked mode refuses.
     ///
     /// # Errors
-    /// [`Error::Refused`] where a line goes back, which a text of 4 GiB can bring about.
+    /// [`Error::Refused`], which no table that was decoded brings about.
     pub fn mappings(&self) -> Result<String, Error> {
         let chunk = TokenChunk::first(self.tokens().len() as u32);
         let mut out = Vec::new();

@@ -1,4 +1,4 @@
-//! The step of a stop position, from a whole map file.
+//! The step of a stop position, from a whole map file, and the piece of its mappings that says so.
 //!
 //! ```text
 //! peghayrick_map MAP LINE COLUMN
@@ -10,13 +10,21 @@
 use peghayrick_map::Map;
 use std::process::ExitCode;
 
+/// A line of mappings, and its segment marked under it. Each character takes one place: one that cannot be shown is `?`.
+fn marked([before, segment, behind]: [&str; 3]) -> String {
+    let shown = |c: char| if c.is_ascii_graphic() { c } else { '?' };
+    let line: String = [before, segment, behind].concat().chars().map(shown).collect();
+    let (indent, marks) = (" ".repeat(before.chars().count()), "^".repeat(segment.chars().count()));
+    format!("mappings  {line}\n          {indent}{marks}")
+}
+
 fn step(path: &str, line: u32, column: u32) -> Result<Option<String>, String> {
     let json = std::fs::read_to_string(path).map_err(|why| format!("the map cannot be read: {why}"))?;
     let map = Map::from_json_string(&json).map_err(|why| why.to_string())?;
     let step = map.lookup(line, column).map_err(|why| why.to_string())?;
     Ok(step.map(|step| {
         let name = step.name.map_or(String::new(), |name| format!(", name {name}"));
-        format!("{}, line {}, column {}{name}", step.source, step.line, step.column)
+        format!("{}, line {}, column {}{name}\n{}", step.source, step.line, step.column, marked(step.mappings))
     }))
 }
 

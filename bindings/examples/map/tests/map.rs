@@ -47,8 +47,8 @@ fn everything_is_read() {
     assert_eq!(map.ignore_list.as_deref(), Some(&[0][..]));
     assert_eq!(map.debug_id.as_deref(), Some("85314830-023f-4cf1-a267-535f4e37bb17"));
     assert_eq!(map.tokens().len(), 7);
-    assert_eq!(map.tokens()[1], Token::new(0, 4, 0, 6, Some(0), Some(0)));
-    assert_eq!(map.tokens()[2], Token::new(1, 0, 0, 6, None, None));
+    assert_eq!(map.tokens()[1], Token::new(0, 4, 0, 6, Some(0), Some(0)).with_segment(Some(5)));
+    assert_eq!(map.tokens()[2], Token::new(1, 0, 0, 6, None, None).with_segment(Some(11)));
 }
 
 #[test]
@@ -56,10 +56,12 @@ fn steps() {
     let map = read(&lysis()).unwrap();
     let steps = |line, column, want| assert_eq!(map.lookup(line, column).unwrap(), want, "{line}:{column}");
     let lysis = "steps/\"lysis\" \u{2014} 2.js";
-    steps(0, 0, Some(Step { source: "main.js", line: 0, column: 0, name: None }));
-    steps(0, 9, Some(Step { source: "main.js", line: 0, column: 6, name: Some("deck") }));
-    steps(2, 31, Some(Step { source: lysis, line: 12, column: 4, name: Some("w\u{e4}sche") }));
-    steps(4, 0, Some(Step { source: lysis, line: 40, column: 0, name: Some("spin") }));
+    let step = |source, line, column, name, mappings| Some(Step { source, line, column, name, mappings });
+    steps(0, 0, step("main.js", 0, 0, None, ["", "AAAA", ",IAAMA"]));
+    steps(0, 9, step("main.js", 0, 6, Some("deck"), ["AAAA,", "IAAMA", ""]));
+    steps(2, 9, step(lysis, 11, 2, Some("spin"), ["ECWN,", "OAAEC", ",qBACEC"]));
+    steps(2, 31, step(lysis, 12, 4, Some("w\u{e4}sche"), ["ECWN,OAAEC,", "qBACEC", ""]));
+    steps(4, 0, step(lysis, 40, 0, Some("spin"), ["", "AA4BJD", ""]));
     steps(1, 7, None); // a token without a source
     steps(2, 1, None); // before the line's first token
     steps(3, 0, None); // a line without tokens
@@ -98,7 +100,9 @@ fn mappings_that_are_not_written_as_they_stand() {
     for (from, to) in [("AAAA;;", "AAAA"), ("AAAA,,A", "AAAA,A"), (",AAAA", "AAAA"), ("gAAAA", "AAAA")] {
         let map = read(&with("mappings", json!(from))).unwrap();
         assert_eq!(map.mappings().unwrap(), to);
-        assert_eq!(read(&with("mappings", json!(to))).unwrap().tokens(), map.tokens());
+        let again = read(&with("mappings", json!(to))).unwrap();
+        assert_eq!(again.tokens().len(), map.tokens().len());
+        assert!(again.tokens().iter().zip(map.tokens()).all(|(a, b)| a.same_mapping(b)));
     }
 }
 

@@ -70,7 +70,12 @@ impl Pair {
         let (result, added) = self.ours_is(&m, &self.inner)?;
         // A result's token has the segment of the outer token in its place, mapped or not.
         if let Some(i) = (6..WIDTH * m.tokens.len()).step_by(WIDTH).find(|&i| result.numbers()[i] != self.outer[i]) {
-            return Err(format!("token {} has the segment {}, its outer token {}", i / WIDTH, result.numbers()[i], self.outer[i]));
+            return Err(format!(
+                "token {} has the segment {}, its outer token {}",
+                i / WIDTH,
+                result.numbers()[i],
+                self.outer[i]
+            ));
         }
         self.ours_is(&m, &other_segments(&self.inner)).map_err(|why| format!("with other inner segments: {why}"))?;
         met_code("compose", m.answer.code);
@@ -87,15 +92,8 @@ impl Pair {
     fn ours_is(&self, m: &Composed, inner: &[u32]) -> Result<(Lent, Lent), String> {
         let mut result = Lent::new(self.result);
         let mut added = Lent::new(self.added);
-        let got = composer::compose(
-            &self.outer,
-            self.sources,
-            &self.outer_names,
-            inner,
-            &self.inner_names,
-            &mut result,
-            &mut added,
-        );
+        let got =
+            composer::compose(&self.outer, self.sources, &self.outer_names, inner, &self.inner_names, &mut result, &mut added);
         let want = (m.answer, m.added.len() as u64);
         if got != want {
             return Err(format!("ours {got:?}, the model {want:?}"));

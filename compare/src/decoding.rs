@@ -192,7 +192,10 @@ impl Text {
         }
         let segments = table.numbers().chunks_exact(WIDTH).take(m.tokens.len()).map(|token| token[6] as usize);
         if !segments.eq(pieces[..m.tokens.len()].iter().map(|piece| piece.start)) {
-            return Err(format!("{entry:?}, {numbers} numbers lent: the table holds {:?}, the pieces {pieces:?}", table.numbers()));
+            return Err(format!(
+                "{entry:?}, {numbers} numbers lent: the table holds {:?}, the pieces {pieces:?}",
+                table.numbers()
+            ));
         }
         met_code(if entry == Entry::Checked { "decode, checked" } else { "decode, lenient" }, a.code);
         Ok(m)

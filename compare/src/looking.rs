@@ -89,8 +89,7 @@ impl std::fmt::Debug for Ask {
 impl Ask {
     /// Tokens that differ from each other: the source line is the index.
     pub fn tokens(&self) -> Vec<Token> {
-        let token =
-            |(i, &(dst_line, dst_col)): (usize, &(u32, u32))| Token::with([dst_line, dst_col, i as u32, 5, 0, NONE], 0);
+        let token = |(i, &(dst_line, dst_col)): (usize, &(u32, u32))| Token::with([dst_line, dst_col, i as u32, 5, 0, NONE], 0);
         with_segments(&self.places.iter().enumerate().map(token).collect::<Vec<_>>(), 0)
     }
 }

@@ -1,7 +1,7 @@
 //! The library by its C names (bindings/rust has them), over slices, with nothing between.
 
-use peghayrick::TokenChunk;
 use peghayrick::raw::*;
+use peghayrick::{TokenChunk, WIDTH};
 
 use crate::texts::Names;
 
@@ -22,7 +22,7 @@ pub fn translate(table: &mut [u32], line: u32, source: u32, name: u32) -> Answer
 }
 
 pub fn translate_tokens(table: &mut [u32], line: u32, source: u32, name: u32) -> Answer {
-    unsafe { pgk_translate_tokens(table.as_mut_ptr().cast(), table.len() / 6, line, source, name) }
+    unsafe { pgk_translate_tokens(table.as_mut_ptr().cast(), table.len() / WIDTH, line, source, name) }
 }
 
 pub fn lookup(table: &[u32], line: u32, col: u32) -> Answer {

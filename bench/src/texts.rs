@@ -6,6 +6,7 @@ use std::process::Command;
 
 use oxc_sourcemap::reach::{self, serde_json};
 use oxc_sourcemap::{Token, TokenChunk};
+use peghayrick::WIDTH;
 
 pub struct Text {
     pub name: String,
@@ -113,11 +114,12 @@ pub fn real(corpus: &Path, id: &str) -> Result<Text, String> {
     Ok(Text { name: id.split('-').next().unwrap_or(id).into(), text, sources, names, tokens })
 }
 
-/// The list as the library's table.
+/// The list as the library's table. The crate's token has no segment: it is none.
 pub fn table_of(tokens: &[Token]) -> Vec<u32> {
     let id = |id: Option<u32>| id.unwrap_or(u32::MAX);
-    tokens
-        .iter()
-        .flat_map(|t| [t.get_dst_line(), t.get_dst_col(), t.get_src_line(), t.get_src_col(), id(t.get_source_id()), id(t.get_name_id())])
-        .collect()
+    let numbers = |t: &Token| -> [u32; WIDTH] {
+        let (source, name) = (id(t.get_source_id()), id(t.get_name_id()));
+        [t.get_dst_line(), t.get_dst_col(), t.get_src_line(), t.get_src_col(), source, name, u32::MAX]
+    };
+    tokens.iter().flat_map(numbers).collect()
 }

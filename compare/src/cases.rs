@@ -6,6 +6,8 @@ use std::fmt::Debug;
 use std::panic::{AssertUnwindSafe, catch_unwind};
 use std::time::Instant;
 
+use crate::model::{NONE, Token, table_of, tokens_of};
+
 /// splitmix64.
 pub struct Random(u64);
 
@@ -53,11 +55,36 @@ impl Random {
 /// 32-bit numbers at which something changes.
 pub const EDGES: [u32; 9] = [0, 1, 2, 0x7fff_ffff, 0x8000_0000, 0x8000_0001, 0xffff_fffd, 0xffff_fffe, 0xffff_ffff];
 
+/// The tokens with any number for the segment: what a caller may hand in, whatever it is. It depends on the other numbers and on
+/// `other` alone, so that two calls give two lists that differ in it.
+pub fn with_segments(tokens: &[Token], other: u64) -> Vec<Token> {
+    let segment = |(i, t): (usize, &Token)| {
+        let mut random = Random(t.six().iter().fold(other ^ i as u64, |sum, &n| sum.wrapping_mul(31).wrapping_add(u64::from(n))));
+        let segment = match random.below(6) {
+            0 => 0,
+            1 => random.below(100) as u32,
+            2 => NONE - 1,
+            3 => NONE,
+            _ => random.next() as u32,
+        };
+        Token { segment, ..*t }
+    };
+    tokens.iter().enumerate().map(segment).collect()
+}
+
+/// The same of a table, whole or not: other numbers for the segments.
+pub fn other_segments(table: &[u32]) -> Vec<u32> {
+    let mut other = table_of(&with_segments(&tokens_of(table), 1));
+    other.extend(&table[other.len()..]);
+    other
+}
+
 thread_local! {
     static CODES: RefCell<BTreeMap<(&'static str, u64), u64>> = const { RefCell::new(BTreeMap::new()) };
 }
 
-/// The codes that each part can give; for what checked mode alone has, the fields; for the premises, no and yes.
+/// The codes that each part can give; for what checked mode alone has, the fields; for the premises, no and yes. A decode's TooBig
+/// takes a text of 4 GiB, which only `far` has.
 const DUE: [(&str, &[u64]); 14] = [
     ("decode, lenient", &[0, 1, 2, 3, 4, 5, 7]),
     ("decode, checked", &[0, 1, 2, 3, 4, 5, 6, 7]),

@@ -3,9 +3,9 @@
 
 use std::collections::HashMap;
 
-use crate::cases::{Case, Class, Random, Tally, met_code};
+use crate::cases::{Case, Class, Random, Tally, met_code, other_segments, with_segments};
 use crate::looking::{self, LINES};
-use crate::model::{self, Composed, Inner, NONE, NameOf, Names, Outer, Token, table_of, tokens_of};
+use crate::model::{self, Composed, Inner, NONE, NameOf, Names, Outer, Six, Token, WIDTH, sixes, table_of, tokens_of};
 use crate::ours::{Lent, composer};
 use crate::theirs::{BUILDS, Build};
 
@@ -34,7 +34,7 @@ fn names_shown(names: &Names) -> String {
 
 impl std::fmt::Debug for Pair {
     fn fmt(&self, f: &mut std::fmt::Formatter<'_>) -> std::fmt::Result {
-        let table = |t: &[u32]| t.chunks(6).map(|t| format!("{t:?}")).collect::<Vec<_>>().join(" ");
+        let table = |t: &[u32]| t.chunks(WIDTH).map(|t| format!("{t:?}")).collect::<Vec<_>>().join(" ");
         write!(
             f,
             "outer {} of {} sources and names {}, inner {} and names {}, room {} and {}",
@@ -67,17 +67,33 @@ impl Pair {
             return Ok(());
         }
         let m = self.model();
+        let (result, added) = self.ours_is(&m, &self.inner)?;
+        // A result's token has the segment of the outer token in its place, mapped or not.
+        if let Some(i) = (6..WIDTH * m.tokens.len()).step_by(WIDTH).find(|&i| result.numbers()[i] != self.outer[i]) {
+            return Err(format!(
+                "token {} has the segment {}, its outer token {}",
+                i / WIDTH,
+                result.numbers()[i],
+                self.outer[i]
+            ));
+        }
+        self.ours_is(&m, &other_segments(&self.inner)).map_err(|why| format!("with other inner segments: {why}"))?;
+        met_code("compose", m.answer.code);
+        // The added list as it was lent, whose places past the count hold the pattern; none; and ids on either side of the count.
+        let count = self.outer_names.count() as u32;
+        let around = [count, count.saturating_sub(1), count + 1, 0, NONE];
+        for list in [&m.added[..], added.numbers(), &[], &around] {
+            self.names_agree(list)?;
+        }
+        Ok(())
+    }
+
+    /// The library, over an inner table, held to the model's answer; what it wrote.
+    fn ours_is(&self, m: &Composed, inner: &[u32]) -> Result<(Lent, Lent), String> {
         let mut result = Lent::new(self.result);
         let mut added = Lent::new(self.added);
-        let got = composer::compose(
-            &self.outer,
-            self.sources,
-            &self.outer_names,
-            &self.inner,
-            &self.inner_names,
-            &mut result,
-            &mut added,
-        );
+        let got =
+            composer::compose(&self.outer, self.sources, &self.outer_names, inner, &self.inner_names, &mut result, &mut added);
         let want = (m.answer, m.added.len() as u64);
         if got != want {
             return Err(format!("ours {got:?}, the model {want:?}"));
@@ -88,14 +104,7 @@ impl Pair {
         if !added.is(&m.added) {
             return Err(format!("ours adds {:?}, the model {:?}", added.numbers(), m.added));
         }
-        met_code("compose", m.answer.code);
-        // The added list as it was lent, whose places past the count hold the pattern; none; and ids on either side of the count.
-        let count = self.outer_names.count() as u32;
-        let around = [count, count.saturating_sub(1), count + 1, 0, NONE];
-        for list in [&m.added[..], added.numbers(), &[], &around] {
-            self.names_agree(list)?;
-        }
-        Ok(())
+        Ok((result, added))
     }
 
     fn names_agree(&self, added: &[u32]) -> Result<(), String> {
@@ -117,7 +126,7 @@ impl Pair {
     }
 
     /// The crate, held to the model with the crate's lookup in it. What it gives.
-    fn theirs(&self, build: &Build) -> Result<Option<(Vec<Token>, Vec<Vec<u8>>)>, String> {
+    fn theirs(&self, build: &Build) -> Result<Option<(Vec<Six>, Vec<Vec<u8>>)>, String> {
         let outer = tokens_of(&self.outer);
         let inner = tokens_of(&self.inner);
         let theirs = (build.compose)(&outer, self.sources as usize, &self.outer_names, &inner, &self.inner_names);
@@ -126,11 +135,12 @@ impl Pair {
         }
         let asked: Vec<(u32, u32)> = outer.iter().map(|t| (t.src_line, t.src_col)).collect();
         let want = (build.look)(&inner, &asked).map(|found| {
-            let known: HashMap<(u32, u32), Option<Token>> = asked.iter().copied().zip(found.iter().map(|f| f.0)).collect();
+            let looked = found.iter().map(|f| f.0.map(|six| Token::with(six, NONE)));
+            let known: HashMap<(u32, u32), Option<Token>> = asked.iter().copied().zip(looked).collect();
             let (tokens, added) = model::composed(&self.outer(), &self.inner(), &|line, col| known[&(line, col)]);
             let inner_names = (0..self.inner_names.count()).map(|i| self.inner_names.name(i).to_vec());
             let names = inner_names.chain(added.iter().map(|&a| self.outer_names.name(a as usize).to_vec()));
-            (tokens, names.collect())
+            (sixes(&tokens), names.collect())
         });
         if theirs != want {
             return Err(format!("the {} crate has {theirs:?}, the model with its lookup {want:?}", build.name));
@@ -140,8 +150,8 @@ impl Pair {
 
     pub fn crate_takes(&self) -> bool {
         let utf8 = |n: &Names| n.sound() && (0..n.count()).all(|i| std::str::from_utf8(n.name(i)).is_ok());
-        self.outer.len() % 6 == 0
-            && self.inner.len() % 6 == 0
+        self.outer.len() % WIDTH == 0
+            && self.inner.len() % WIDTH == 0
             && utf8(&self.outer_names)
             && utf8(&self.inner_names)
             && tokens_of(&self.inner).iter().all(|t| t.dst_line <= LINES)
@@ -166,7 +176,7 @@ impl Case for Pair {
             match theirs {
                 None if self.sources > 1 => classes.push(TWO_SOURCES),
                 None => classes.push(PANICS),
-                Some((t, _)) if t == tokens => {}
+                Some((t, _)) if t == sixes(&tokens) => {}
                 Some(_) if explained => classes.push(LOOKUP),
                 Some((t, _)) => return Err(format!("the {} crate has {t:?}, ours {tokens:?}", build.name)),
             }
@@ -177,14 +187,14 @@ impl Case for Pair {
 
     fn smaller(&self) -> Vec<Pair> {
         let mut list = Vec::new();
-        for i in 0..self.outer.len() / 6 {
+        for i in 0..self.outer.len() / WIDTH {
             let mut p = self.clone();
-            p.outer.drain(6 * i..6 * i + 6);
+            p.outer.drain(WIDTH * i..WIDTH * (i + 1));
             list.push(p);
         }
-        for i in 0..self.inner.len() / 6 {
+        for i in 0..self.inner.len() / WIDTH {
             let mut p = self.clone();
-            p.inner.drain(6 * i..6 * i + 6);
+            p.inner.drain(WIDTH * i..WIDTH * (i + 1));
             list.push(p);
         }
         let with = |names: &Names, i: usize| {
@@ -265,6 +275,7 @@ pub fn pairs(random: &mut Random, cases: usize, most: usize, go: &mut dyn FnMut(
                 src_col: random.below(3) as u32,
                 source_id: if random.one_in(6) { NONE } else { random.below(3) as u32 },
                 name_id: random_id(random, inner_names.count()),
+                segment: 0,
             })
             .collect();
         if random.one_in(12) {
@@ -285,15 +296,16 @@ pub fn pairs(random: &mut Random, cases: usize, most: usize, go: &mut dyn FnMut(
                 src_col: random.below(wide + 1) as u32,
                 source_id: if random.one_in(6) { NONE } else { random.pick(&[0, 0, 0, 1, 9]) },
                 name_id: random_id(random, outer_names.count()),
+                segment: 0,
             })
             .collect();
         let mut pair = Pair {
-            result: 6 * outer.len() + random.below(8),
+            result: WIDTH * outer.len() + random.below(8),
             added: outer_names.count() + random.below(3),
-            outer: table_of(&outer),
+            outer: table_of(&with_segments(&outer, 0)),
             sources: random.pick(&[1, 1, 1, 1, 1, 1, 0]),
             outer_names,
-            inner: table_of(&inner),
+            inner: table_of(&with_segments(&inner, 0)),
             inner_names,
         };
         match random.below(30) {
@@ -325,19 +337,20 @@ pub fn small(go: &mut dyn FnMut(Pair) -> bool) {
                 .map(|i| {
                     let k = (code / usize::pow(kinds, i as u32) % kinds) as u32;
                     let (source_id, name_id) = [(0, NONE), (0, 0), (NONE, NONE)][k as usize / 6];
-                    Token { dst_line: k % 2, dst_col: k / 2 % 3, src_line: i as u32, src_col: 1, source_id, name_id }
+                    Token::with([k % 2, k / 2 % 3, i as u32, 1, source_id, name_id], 0)
                 })
                 .collect();
             for (src_line, src_col) in [(0, 1), (1, 0), (1, 2), (2, 0)] {
                 for name_id in [0, 1, 2, NONE] {
-                    let t = Token { dst_line: 0, dst_col: 9, src_line, src_col, source_id: 0, name_id };
+                    let t = Token::with([0, 9, src_line, src_col, 0, name_id], 0);
                     let pair = Pair {
-                        outer: table_of(&[t]),
+                        // The code varies it: here the outer token is nearly the same in each pair.
+                        outer: table_of(&with_segments(&[t], code as u64)),
                         sources: 1,
                         outer_names: outer_names.clone(),
-                        inner: table_of(&inner),
+                        inner: table_of(&with_segments(&inner, 0)),
                         inner_names: inner_names.clone(),
-                        result: 6,
+                        result: WIDTH,
                         added: 2,
                     };
                     if !go(pair) {

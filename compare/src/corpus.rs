@@ -12,7 +12,7 @@ use crate::cases::{Case, Random, Tally};
 use crate::composing::{Pair, names_of};
 use crate::decoding::Text;
 use crate::looking::Ask;
-use crate::model::{self, Inner, Mode, NONE, Names, Outer, Token, TokenChunk, table_of};
+use crate::model::{self, Inner, Mode, NONE, Names, Outer, Token, TokenChunk, sixes, table_of};
 use crate::ours::{self, LentBytes, writer};
 use crate::theirs::BUILDS;
 use crate::translating::Move;
@@ -96,7 +96,7 @@ fn one_map(corpus: &Path, map: &Value, random: &mut Random) -> Checked<()> {
     same("checked mode", &model::decode(Mode::Checked, &case.text, sources, names, usize::MAX), &decoded)?;
     let tokens = decoded.tokens;
     same("tokens", tokens.len() as u64, number("tokens"))?;
-    let words: Vec<u8> = table_of(&tokens).iter().flat_map(|n| n.to_le_bytes()).collect();
+    let words: Vec<u8> = sixes(&tokens).iter().flatten().flat_map(|n| n.to_le_bytes()).collect();
     same("tokens_sha256", sha256(&words)?.as_str(), map["tokens_sha256"].as_str().unwrap_or(""))?;
 
     let mut text = written(&tokens)?;

@@ -1,9 +1,10 @@
 //! Decoding: the model held to the crate in both builds, and the library held to the model in every entry and room.
 
 use std::borrow::Cow;
+use std::ops::Range;
 
-use crate::cases::{Case, Class, EDGES, Random, Tally, met_code};
-use crate::model::{self, Answer, DIGITS, Decoded, Mode, NONE, Token, TokenChunk, answer, is_delimiter, table_of};
+use crate::cases::{Case, Class, EDGES, Random, Tally, met_code, with_segments};
+use crate::model::{self, Answer, DIGITS, Decoded, Mode, NONE, Token, TokenChunk, WIDTH, answer, is_delimiter, sixes, table_of};
 use crate::ours::{self, Entry, Lent};
 use crate::theirs::{BUILDS, RELEASE};
 
@@ -33,6 +34,20 @@ pub fn segment_end(bytes: &[u8], start: usize) -> usize {
     (start..bytes.len()).find(|&i| is_delimiter(bytes[i])).unwrap_or(bytes.len())
 }
 
+/// Where the pieces lie that are left of a text cut at `,` and `;`, the empty ones aside: the k-th token is that of the k-th. This
+/// judges the segments of tokens apart from the model, which reads values.
+pub fn pieces(text: &[u8]) -> Vec<Range<usize>> {
+    let mut start = 0;
+    let mut list = Vec::new();
+    for piece in text.split(|&b| b == b',' || b == b';') {
+        if !piece.is_empty() {
+            list.push(start..start + piece.len());
+        }
+        start += piece.len() + 1;
+    }
+    list
+}
+
 impl Text {
     /// The model's lenient answer against the crate's, the refused segment and the offset by running the crate on parts of the text.
     fn crate_agrees(&self, m: &Decoded) -> Result<(), String> {
@@ -40,7 +55,7 @@ impl Text {
         for build in BUILDS {
             let theirs = (build.decode)(&text, self.sources, self.names).ok_or(format!("the {} crate panics", build.name))?;
             let same = match &theirs {
-                Ok(tokens) => m.answer == answer(model::DONE, 0) && *tokens == m.tokens && m.offset == text.len(),
+                Ok(tokens) => m.answer == answer(model::DONE, 0) && *tokens == sixes(&m.tokens) && m.offset == text.len(),
                 Err(a) => m.answer == *a,
             };
             if !same {
@@ -49,6 +64,23 @@ impl Text {
         }
         if m.answer.code != model::DONE {
             self.cut(&text, m)?;
+        }
+        self.one_token(&text, m)
+    }
+
+    /// One token in some texts: cut before its piece the crate has the tokens before it, and cut behind the piece this one more.
+    fn one_token(&self, text: &str, m: &Decoded) -> Result<(), String> {
+        let sum = self.text.iter().fold(self.text.len(), |sum, &b| sum.wrapping_mul(31).wrapping_add(b.into()));
+        if m.tokens.is_empty() || sum % 8 != 0 {
+            return Ok(());
+        }
+        let k = sum / 8 % m.tokens.len();
+        let piece = pieces(&self.text).swap_remove(k);
+        for (end, count) in [(piece.start, k), (piece.end, k + 1)] {
+            let theirs = (RELEASE.decode)(&text[..end], self.sources, self.names);
+            if theirs != Some(Ok(sixes(&m.tokens[..count]))) || m.tokens[k].segment as usize != piece.start {
+                return Err(format!("token {k}, cut at {end}: the crate has {theirs:?}; the model says {m:?}"));
+            }
         }
         Ok(())
     }
@@ -59,7 +91,7 @@ impl Text {
         let begins = !is_delimiter(bytes[m.start]) && (m.start == 0 || is_delimiter(bytes[m.start - 1]));
         let before = (RELEASE.decode)(&text[..m.start], self.sources, self.names);
         let whole = (RELEASE.decode)(&text[..segment_end(bytes, m.start)], self.sources, self.names);
-        if !begins || before != Some(Ok(m.tokens.clone())) || whole != Some(Err(m.answer)) {
+        if !begins || before != Some(Ok(sixes(&m.tokens))) || whole != Some(Err(m.answer)) {
             return Err(format!(
                 "cut at {}: before it {before:?}, to the segment's end {whole:?}; the model says {m:?}",
                 m.start
@@ -110,13 +142,13 @@ impl Text {
         for entry in Entry::ALL {
             let decode = |table: &mut Lent| ours::decode(entry, &self.text, self.sources, self.names, table);
             let (a, tokens, _) = decode(&mut Lent::new(size));
-            if a.code == model::TABLE_FULL || 6 * tokens as usize > size {
+            if a.code == model::TABLE_FULL || WIDTH * tokens as usize > size {
                 return Err(format!("{entry:?}: {tokens} tokens and code {} in a table of {size} numbers", a.code));
             }
             if a.code == model::DONE && size > 0 {
-                let (less, ..) = decode(&mut Lent::new(size - 6));
-                if 6 * tokens as usize != size || less.code != model::TABLE_FULL {
-                    return Err(format!("{entry:?}: {tokens} tokens, but code {} in {} numbers", less.code, size - 6));
+                let (less, ..) = decode(&mut Lent::new(size - WIDTH));
+                if WIDTH * tokens as usize != size || less.code != model::TABLE_FULL {
+                    return Err(format!("{entry:?}: {tokens} tokens, but code {} in {} numbers", less.code, size - WIDTH));
                 }
             }
         }
@@ -142,9 +174,9 @@ impl Text {
         }
     }
 
-    /// The library in one entry, with room for so many numbers.
-    fn ours_agrees(&self, entry: Entry, numbers: usize) -> Result<Decoded, String> {
-        let m = model::decode(entry.mode(), &self.text, self.sources, self.names, numbers / 6);
+    /// The library in one entry, with room for so many numbers. The segments are held to the pieces of the text too.
+    fn ours_agrees(&self, entry: Entry, numbers: usize, pieces: &[Range<usize>]) -> Result<Decoded, String> {
+        let m = model::decode(entry.mode(), &self.text, self.sources, self.names, numbers / WIDTH);
         let mut table = Lent::new(numbers);
         let (a, tokens, offset) = ours::decode(entry, &self.text, self.sources, self.names, &mut table);
         let want = (m.answer, m.tokens.len() as u64, m.offset as u64);
@@ -156,6 +188,13 @@ impl Text {
                 "{entry:?}, {numbers} numbers lent: the table holds {:?}, the model has {:?}",
                 table.numbers(),
                 m.tokens
+            ));
+        }
+        let segments = table.numbers().chunks_exact(WIDTH).take(m.tokens.len()).map(|token| token[6] as usize);
+        if !segments.eq(pieces[..m.tokens.len()].iter().map(|piece| piece.start)) {
+            return Err(format!(
+                "{entry:?}, {numbers} numbers lent: the table holds {:?}, the pieces {pieces:?}",
+                table.numbers()
             ));
         }
         met_code(if entry == Entry::Checked { "decode, checked" } else { "decode, lenient" }, a.code);
@@ -170,26 +209,27 @@ impl Case for Text {
         self.crate_agrees(&lenient)?;
         self.size_agrees()?;
         self.counted(&checked);
-        // Rooms: one token more than it takes, just as many, one less, none; up to five numbers past a whole token.
+        let pieces = pieces(&self.text);
+        // Rooms: one token more than it takes, just as many, one less, none; up to six numbers past a whole token.
         for entry in Entry::ALL {
             let count = if entry == Entry::Checked { checked.tokens.len() } else { lenient.tokens.len() };
-            let odd = (self.text.len() + count) % 6;
-            self.ours_agrees(entry, 6 * (count + 1) + odd)?;
-            self.ours_agrees(entry, 6 * count + (odd + 1) % 6)?;
+            let odd = (self.text.len() + count) % WIDTH;
+            self.ours_agrees(entry, WIDTH * (count + 1) + odd, &pieces)?;
+            self.ours_agrees(entry, WIDTH * count + (odd + 1) % WIDTH, &pieces)?;
             if count > 0 {
-                let full = self.ours_agrees(entry, 6 * (count - 1) + (odd + 2) % 6)?;
+                let full = self.ours_agrees(entry, WIDTH * (count - 1) + (odd + 2) % WIDTH, &pieces)?;
                 if full.answer.code == model::TABLE_FULL && entry == Entry::Lenient {
                     // The crate takes the text cut where the table was full, and has just those tokens there.
                     let text = utf8(&self.text);
                     let before = (RELEASE.decode)(&text[..full.start], self.sources, self.names);
-                    if before != Some(Ok(full.tokens.clone())) || full.offset != full.start {
+                    if before != Some(Ok(sixes(&full.tokens))) || full.offset != full.start {
                         return Err(format!(
                             "full at {}: the crate has {before:?} before it, the model {:?}",
                             full.offset, full.tokens
                         ));
                     }
                 }
-                self.ours_agrees(entry, odd)?;
+                self.ours_agrees(entry, odd, &pieces)?;
             }
         }
         Ok(vec![])
@@ -525,7 +565,7 @@ pub fn patterns(random: &mut Random, cases: usize, go: &mut dyn FnMut(Text) -> b
     }
 }
 
-/// A list of tokens that a writer may meet: lines never fall, columns may.
+/// A list of tokens that a writer may meet: lines never fall, columns may; any number for the segment.
 pub fn random_tokens(random: &mut Random, most: usize) -> Vec<Token> {
     let kind = random.below(4);
     let mut line = 0u32;
@@ -559,7 +599,7 @@ pub fn random_tokens(random: &mut Random, most: usize) -> Vec<Token> {
         }
         tokens.push(token);
     }
-    tokens
+    with_segments(&tokens, 0)
 }
 
 /// A text for such a list: the writer's own, or one with longer spellings, empty segments and lines.
@@ -655,20 +695,21 @@ pub fn any_bytes(random: &mut Random, cases: usize, go: &mut dyn FnMut(Text) -> 
 }
 
 pub fn worked() -> Vec<(Text, Decoded, Decoded)> {
-    let done = |tokens: &[[u32; 6]], n: usize| Decoded {
+    let done = |tokens: &[[u32; WIDTH]], n: usize| Decoded {
         answer: answer(0, 0),
         tokens: tokens.iter().map(|t| Token::of(t)).collect(),
         offset: n,
         start: n,
     };
-    let behind = |tokens: &[[u32; 6]], code, number, start, offset| Decoded {
+    let behind = |tokens: &[[u32; WIDTH]], code, number, start, offset| Decoded {
         answer: answer(code, number),
         start,
         ..done(tokens, offset)
     };
     let refused = |code, number, offset| behind(&[], code, number, 0, offset);
     let both = |t: &[u8], s, n, d: Decoded| (Text::new(t, s, n), d.clone(), d);
-    let one = [0, 0, 0, 0, NONE, NONE];
+    let at = |col, segment| [0, col, 0, 0, NONE, NONE, segment];
+    let one = at(0, 0);
     vec![
         both(b"", 0, 0, done(&[], 0)),
         both(b"A", 0, 0, done(&[one], 1)),
@@ -681,22 +722,22 @@ pub fn worked() -> Vec<(Text, Decoded, Decoded)> {
         both(b"gAADA", 1, 0, refused(3, 0, 3)),
         both(b"AAA", 1, 0, refused(3, 3, 0)),
         both(b"AAAAAA", 1, 1, refused(3, 6, 0)),
-        both(b"+/////D", 0, 0, done(&[[0, 2147483647, 0, 0, NONE, NONE]], 7)),
-        (Text::new(b"ggggggE", 0, 0), done(&[[0, 2147483648, 0, 0, NONE, NONE]], 7), refused(6, 0, 0)),
+        both(b"+/////D", 0, 0, done(&[at(2147483647, 0)], 7)),
+        (Text::new(b"ggggggE", 0, 0), done(&[at(2147483648, 0)], 7), refused(6, 0, 0)),
         (Text::new(b"hgggggE", 0, 0), refused(3, 0, 0), refused(6, 0, 0)),
-        (Text::new(b"+/////H", 0, 0), done(&[[0, 4294967295, 0, 0, NONE, NONE]], 7), refused(6, 0, 0)),
+        (Text::new(b"+/////H", 0, 0), done(&[at(4294967295, 0)], 7), refused(6, 0, 0)),
         (Text::new(b"ggggggI", 0, 0), done(&[one], 7), refused(6, 0, 0)),
-        (Text::new(b"AAggggggIA", 1, 0), done(&[[0, 0, 0, 0, 0, NONE]], 10), refused(6, 2, 2)),
+        (Text::new(b"AAggggggIA", 1, 0), done(&[[0, 0, 0, 0, 0, NONE, 0]], 10), refused(6, 2, 2)),
         (Text::new(b"D+/////HA", 1, 0), refused(3, 0, 0), refused(6, 1, 1)),
         both(b"AAAAA+/////H", 1, 1, refused(3, 6, 0)),
         (
             Text::new(b"+/////D,+/////D,E", 0, 0),
-            done(&[[0, 2147483647, 0, 0, NONE, NONE], [0, 4294967294, 0, 0, NONE, NONE], one], 17),
-            behind(&[[0, 2147483647, 0, 0, NONE, NONE], [0, 4294967294, 0, 0, NONE, NONE]], 6, 0, 16, 16),
+            done(&[at(2147483647, 0), at(4294967294, 8), at(0, 16)], 17),
+            behind(&[at(2147483647, 0), at(4294967294, 8)], 6, 0, 16, 16),
         ),
         (Text::new(b"B", 0, 0), done(&[one], 1), refused(3, 0, 0)),
         (Text::new(b"hA", 0, 0), done(&[one], 2), refused(3, 0, 0)),
-        (Text::new(b"AAAAB", 1, 1), done(&[[0; 6]], 5), refused(6, 4, 4)),
+        (Text::new(b"AAAAB", 1, 1), done(&[[0; WIDTH]], 5), refused(6, 4, 4)),
         both(b"ggggggggggggA", 0, 0, done(&[one], 13)),
         (Text::new(b"ggggggggggggQ", 0, 0), done(&[one], 13), refused(6, 0, 0)),
         (Text::new(b"hgggggggggggQ", 0, 0), done(&[one], 13), refused(6, 0, 0)),
@@ -705,7 +746,7 @@ pub fn worked() -> Vec<(Text, Decoded, Decoded)> {
         both(b"!", 0, 0, refused(1, 0, 1)),
         both(b"A,!", 0, 0, behind(&[one], 1, 0, 2, 3)),
         both(b"!A", 0, 0, refused(3, 0, 0)),
-        both(b"AAEG;C", 1, 0, done(&[[0, 0, 2, 3, 0, NONE], [1, 1, 2, 3, NONE, NONE]], 6)),
+        both(b"AAEG;C", 1, 0, done(&[[0, 0, 2, 3, 0, NONE, 0], [1, 1, 2, 3, NONE, NONE, 5]], 6)),
     ]
 }
 

@@ -4,12 +4,12 @@ use std::time::Instant;
 
 use crate::cases::Tally;
 use crate::composing::names_of;
-use crate::model::{self, Answer, NONE, NameOf, Names, Token, TokenChunk, answer, table_of};
+use crate::model::{self, Answer, NONE, NameOf, Names, Six, Token, TokenChunk, WIDTH, answer, sixes, table_of};
 use crate::ours::{self, Entry, Lent, LentBytes, composer, writer};
 use crate::theirs::{BUILDS, Build};
 
 fn at(dst_line: u32, dst_col: u32) -> Token {
-    Token { dst_line, dst_col, src_line: 0, src_col: 0, source_id: NONE, name_id: NONE }
+    Token { dst_line, dst_col, src_line: 0, src_col: 0, source_id: NONE, name_id: NONE, segment: 0 }
 }
 
 fn same<T: PartialEq + std::fmt::Debug>(what: &str, got: T, want: T) -> Result<(), String> {
@@ -21,37 +21,41 @@ fn ours_decode(entry: Entry, text: &[u8], sources: u32, names: u32, numbers: usi
 }
 
 fn decoding(build: &Build) -> Result<(), String> {
-    for numbers in 0..6 {
+    for numbers in 0..WIDTH {
         same("no place", ours_decode(Entry::Lenient, b"A", 0, 0, numbers), (answer(model::TABLE_FULL, 0), 0, 0))?;
     }
-    same("no place, the crate", (build.decode)("A", 0, 0), Some(Ok(vec![at(0, 0)])))?;
-    same("0x80", ours_decode(Entry::Lenient, &[0x80], 0, 0, 6), (answer(model::VLQ_LEFTOVER, 0), 0, 1))?;
-    same("the place", ours_decode(Entry::Lenient, b"AADA", 1, 0, 6), (answer(model::BAD_SEGMENT_SIZE, 0), 0, 2))?;
+    same("no place, the crate", (build.decode)("A", 0, 0), Some(Ok(vec![at(0, 0).six()])))?;
+    let mut table = Lent::new(WIDTH);
+    same("the segment", ours::decode(Entry::Lenient, b",A", 0, 0, &mut table), (answer(model::DONE, 0), 1, 2))?;
+    same("the segment", table.is(&table_of(&[Token { segment: 1, ..at(0, 0) }])), true)?;
+    same("the segment, the crate", (build.decode)(",A", 0, 0), Some(Ok(vec![at(0, 0).six()])))?;
+    same("0x80", ours_decode(Entry::Lenient, &[0x80], 0, 0, WIDTH), (answer(model::VLQ_LEFTOVER, 0), 0, 1))?;
+    same("the place", ours_decode(Entry::Lenient, b"AADA", 1, 0, WIDTH), (answer(model::BAD_SEGMENT_SIZE, 0), 0, 2))?;
     same("the place, the crate", (build.decode)("AADA", 1, 0), Some(Err(answer(model::BAD_SEGMENT_SIZE, 0))))?;
     // 2^32 in one value, and in a sum of values that are taken.
     let lost = "ggggggI";
-    same("wide", ours_decode(Entry::Checked, lost.as_bytes(), 0, 0, 6).0, answer(model::WIDE_VALUE, 0))?;
-    same("wide, the crate", (build.decode)(lost, 0, 0), Some(Ok(vec![at(0, 0)])))?;
+    same("wide", ours_decode(Entry::Checked, lost.as_bytes(), 0, 0, WIDTH).0, answer(model::WIDE_VALUE, 0))?;
+    same("wide, the crate", (build.decode)(lost, 0, 0), Some(Ok(vec![at(0, 0).six()])))?;
     let sum = "+/////D,+/////D,E";
-    same("a wide sum", ours_decode(Entry::Checked, sum.as_bytes(), 0, 0, 18), (answer(model::WIDE_VALUE, 0), 2, 16))?;
-    let places = [(1 << 31) - 1, NONE - 1, 0].map(|col| at(0, col));
+    same("a wide sum", ours_decode(Entry::Checked, sum.as_bytes(), 0, 0, 3 * WIDTH), (answer(model::WIDE_VALUE, 0), 2, 16))?;
+    let places = [(1 << 31) - 1, NONE - 1, 0].map(|col| at(0, col).six());
     same("a wide sum, the crate", (build.decode)(sum, 0, 0), Some(Ok(places.to_vec())))?;
-    same("name", ours_decode(Entry::Checked, b"AAAAD", 1, 1, 6).0, answer(model::WIDE_VALUE, 4))?;
+    same("name", ours_decode(Entry::Checked, b"AAAAD", 1, 1, WIDTH).0, answer(model::WIDE_VALUE, 4))?;
     let lost = answer(model::BAD_NAME_REFERENCE, u64::from(NONE));
     same("name, the crate", (build.decode)("AAAAD", 1, 1), Some(Err(lost)))?;
     // From ECMA-426: where checked mode judges a value as the standard does, and where it does not either.
     let wide = answer(model::WIDE_VALUE, 0);
     let below = answer(model::BAD_SEGMENT_SIZE, 0);
     for (text, col, checked) in [("B", 0, below), ("hA", 0, below), ("ggggggE", 1 << 31, wide), ("ggggggggggggQ", 0, wide)] {
-        same(text, (build.decode)(text, 0, 0), Some(Ok(vec![at(0, col)])))?;
-        let mut table = Lent::new(6);
+        same(text, (build.decode)(text, 0, 0), Some(Ok(vec![at(0, col).six()])))?;
+        let mut table = Lent::new(WIDTH);
         let done = (answer(model::DONE, 0), 1, text.len() as u64);
         same(text, ours::decode(Entry::Lenient, text.as_bytes(), 0, 0, &mut table), done)?;
         same(text, table.is(&table_of(&[at(0, col)])), true)?;
-        same(text, ours_decode(Entry::Checked, text.as_bytes(), 0, 0, 6), (checked, 0, 0))?;
+        same(text, ours_decode(Entry::Checked, text.as_bytes(), 0, 0, WIDTH), (checked, 0, 0))?;
     }
     let sixth = answer(model::BAD_SEGMENT_SIZE, 6);
-    same("a sixth field", ours_decode(Entry::Checked, b"AAAAA+/////H", 1, 1, 6), (sixth, 0, 0))?;
+    same("a sixth field", ours_decode(Entry::Checked, b"AAAAA+/////H", 1, 1, WIDTH), (sixth, 0, 0))?;
     same("a sixth field, the crate", (build.decode)("AAAAA+/////H", 1, 1), Some(Err(sixth)))?;
     let none: &[Token] = &[];
     for (text, sources, tokens) in [
@@ -59,11 +63,14 @@ fn decoding(build: &Build) -> Result<(), String> {
         (
             "AAEG,C",
             1,
-            &[Token { src_line: 2, src_col: 3, source_id: 0, ..at(0, 0) }, Token { src_line: 2, src_col: 3, ..at(0, 1) }],
+            &[
+                Token { src_line: 2, src_col: 3, source_id: 0, ..at(0, 0) },
+                Token { src_line: 2, src_col: 3, segment: 5, ..at(0, 1) },
+            ],
         ),
     ] {
-        same(text, (build.decode)(text, sources, 0), Some(Ok(tokens.to_vec())))?;
-        let mut table = Lent::new(12);
+        same(text, (build.decode)(text, sources, 0), Some(Ok(sixes(tokens))))?;
+        let mut table = Lent::new(2 * WIDTH);
         let done = (answer(model::DONE, 0), tokens.len() as u64, text.len() as u64);
         same(text, ours::decode(Entry::Checked, text.as_bytes(), sources, 0, &mut table), done)?;
         same(text, table.is(&table_of(tokens)), true)?;
@@ -75,7 +82,7 @@ fn decoding(build: &Build) -> Result<(), String> {
         ("AAAA", model::BAD_SOURCE_REFERENCE),
     ] {
         same(text, (build.decode)(text, 0, 0), Some(Err(answer(code, 0))))?;
-        same(text, ours_decode(Entry::Checked, text.as_bytes(), 0, 0, 6).0, answer(code, 0))?;
+        same(text, ours_decode(Entry::Checked, text.as_bytes(), 0, 0, WIDTH).0, answer(code, 0))?;
     }
     Ok(())
 }
@@ -109,9 +116,9 @@ fn translating(build: &Build) -> Result<(), String> {
     let id = Token { source_id: NONE - 1, ..at(0, 0) };
     let big = answer(model::TOO_BIG, 0);
     same("an id", ours::translate(&mut Lent::holding(&table_of(&[id])), 0, 1, 0), big)?;
-    same("an id, the crate", (build.translate)(&[id], 0, 1, 0), Some(vec![at(0, 0)]))?;
+    same("an id, the crate", (build.translate)(&[id], 0, 1, 0), Some(vec![at(0, 0).six()]))?;
     same("a line", ours::translate(&mut Lent::holding(&table_of(&[at(1, 0)])), NONE, 0, 0), big)?;
-    let want = if build.name == "debug" { None } else { Some(vec![at(0, 0)]) };
+    let want = if build.name == "debug" { None } else { Some(vec![at(0, 0).six()]) };
     same("a line, the crate", (build.translate)(&[at(1, 0)], NONE, 0, 0), want)
 }
 
@@ -128,9 +135,10 @@ fn looking(build: &Build) -> Result<(), String> {
         let tokens: Vec<Token> = places.iter().enumerate().map(|(i, &(l, c))| Token { src_line: i as u32, ..at(l, c) }).collect();
         same("ours", ours::lookup(&table_of(&tokens), asked.0, asked.1), answer(model::DONE, index))?;
         let looked = (build.look)(&tokens, &[asked]).map(|l| l[0]);
-        same("the crate's", looked.and_then(|l| l.0).map(|t| t.src_line), theirs)?;
+        let src_line = |six: Six| six[2];
+        same("the crate's", looked.and_then(|l| l.0).map(src_line), theirs)?;
         // The plain lookup does not clamp.
-        let plain = looked.and_then(|l| l.1).map(|t| t.src_line);
+        let plain = looked.and_then(|l| l.1).map(src_line);
         same("the crate's plain one", plain, if i == 0 || i == 4 { None } else { theirs })?;
     }
     Ok(())
@@ -143,17 +151,17 @@ fn composing(build: &Build) -> Result<(), String> {
     let inner = [Token { source_id: 0, ..at(0, 1) }];
     same("two sources", (build.compose)(&[], 2, &none, &[], &none), None)?;
     same("lines fall", (build.compose)(&[], 1, &none, &fall, &none), None)?;
-    same("before", (build.compose)(&outer, 1, &none, &inner, &none), Some((outer.to_vec(), vec![])))?;
+    same("before", (build.compose)(&outer, 1, &none, &inner, &none), Some((sixes(&outer), vec![])))?;
     if composer::HERE {
         let run = |outer: &[Token], sources, names: &Names, inner: &[Token], room: &mut Lent, added| {
             composer::compose(&table_of(outer), sources, names, &table_of(inner), &none, room, &mut Lent::new(added))
         };
-        let mut room = Lent::new(6);
+        let mut room = Lent::new(WIDTH);
         same("two sources", run(&[], 2, &none, &[], &mut room, 0), (answer(model::MORE_THAN_ONE_SOURCE, 0), 0))?;
         same("lines fall", run(&[], 1, &none, &fall, &mut room, 0), (answer(model::DONE, 0), 0))?;
         same("before", run(&outer, 1, &none, &inner, &mut room, 0), (answer(model::DONE, 0), 0))?;
         same("before", room.is(&table_of(&[at(0, 0)])), true)?;
-        let mut short = Lent::new(5);
+        let mut short = Lent::new(WIDTH - 1);
         same("no place", run(&[at(0, 0)], 1, &none, &[], &mut short, 0), (answer(model::TABLE_FULL, 0), 0))?;
         let one = names_of(&[b"a"], b"");
         same("no place", run(&[], 1, &one, &[], &mut short, 0), (answer(model::NO_ROOM, 1), 0))?;

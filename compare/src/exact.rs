@@ -1,6 +1,6 @@
 //! Checked decoding by a judge of its own, after ECMA-426 and apart from model.rs: whole numbers from the first digit to the last sum,
-//! with no remainder, no mask and no mode in them. It says which tokens stand before the first segment that cannot be kept, and
-//! nothing of codes and offsets.
+//! with no remainder, no mask and no mode in them. It says which tokens stand before the first segment that cannot be kept, and where
+//! their segments begin, and nothing of codes and offsets.
 
 use crate::cases::{Case, Class, Random, Tally, met_code};
 use crate::decoding::{self, COUNTS, Text};
@@ -49,7 +49,7 @@ struct Sums {
     name: i128,
 }
 
-/// The six numbers of a segment's token; none where it cannot be kept.
+/// A segment's token but for where the segment begins; none where it cannot be kept.
 fn token(line: usize, sums: &mut Sums, segment: &[Value], sources: i128, names: i128) -> Option<[i128; 6]> {
     let values: Vec<i128> = segment.iter().map(|digits| value(digits)).collect::<Option<_>>()?;
     let added = |sum: &mut i128, value: i128, below: i128| {
@@ -74,22 +74,29 @@ fn token(line: usize, sums: &mut Sums, segment: &[Value], sources: i128, names: 
     }
 }
 
-/// The tokens before the first segment that cannot be kept, and whether there is none such.
-fn judged(lines: &[Line], sources: u32, names: u32) -> (Vec<[i128; 6]>, bool) {
+/// The tokens before the first segment that cannot be kept, each with the digits and delimiters counted that stand before its
+/// segment, and whether there is none such.
+fn judged(lines: &[Line], sources: u32, names: u32) -> (Vec<([i128; 6], i128)>, bool) {
     let mut sums = Sums::default();
     let mut tokens = Vec::new();
+    let mut before = 0;
     for (number, line) in lines.iter().enumerate() {
         sums.column = 0;
-        for segment in line {
+        for (i, segment) in line.iter().enumerate() {
+            // The comma.
+            before += i128::from(i > 0);
             match segment {
                 Some(values) if values.is_empty() => {}
                 Some(values) => match token(number, &mut sums, values, sources.into(), names.into()) {
-                    Some(token) => tokens.push(token),
+                    Some(token) => tokens.push((token, before)),
                     None => return (tokens, false),
                 },
                 None => return (tokens, false),
             }
+            before += segment.iter().flatten().map(|digits| digits.len() as i128).sum::<i128>();
         }
+        // The semicolon.
+        before += 1;
     }
     (tokens, true)
 }
@@ -98,13 +105,14 @@ fn judged(lines: &[Line], sources: u32, names: u32) -> (Vec<[i128; 6]>, bool) {
 fn agrees(part: &'static str, text: &[u8], lines: &[Line], sources: u32, names: u32) -> Result<(), String> {
     let (tokens, whole) = judged(lines, sources, names);
     let segments: usize = lines.iter().map(Vec::len).sum();
-    let mut table = Lent::new(6 * segments + text.len() % 6);
+    let mut table = Lent::new(7 * segments + text.len() % 7);
     let (a, count, offset) = ours::decode(Entry::Checked, text, sources, names, &mut table);
     met_code(part, a.code);
-    let want: Vec<u32> = tokens.iter().flatten().map(|&n| u32::try_from(n).expect("a number of 32 bits")).collect();
+    let numbers = tokens.iter().flat_map(|(six, begin)| six.iter().chain([begin]));
+    let want: Vec<u32> = numbers.map(|&n| u32::try_from(n).expect("a number of 32 bits")).collect();
     let coded = if whole { (a.code, a.number, offset) == (0, 0, text.len() as u64) } else { a.code != 0 };
     if !coded || count != tokens.len() as u64 || !table.is(&want) {
-        let held = &table.numbers()[..6 * (count as usize).min(segments)];
+        let held = &table.numbers()[..7 * (count as usize).min(segments)];
         return Err(format!("ours {a:?}, {count} tokens, offset {offset}, {held:?}; due {whole}, {tokens:?}"));
     }
     Ok(())

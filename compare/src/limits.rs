@@ -3,7 +3,7 @@
 use std::time::Instant;
 
 use crate::cases::Tally;
-use crate::model::{self, Answer, MOST, Mode, NONE, TokenChunk, answer};
+use crate::model::{self, Answer, MOST, Mode, NONE, TokenChunk, WIDTH, answer};
 use crate::ours::{self, Entry};
 
 unsafe extern "C" {
@@ -22,20 +22,38 @@ fn expect<T: PartialEq + std::fmt::Debug>(what: &str, got: T, want: T) -> Result
 
 const BAD: Answer = Answer { code: model::BAD_TABLE, number: 0 };
 
-/// One token more than a table may hold.
+/// The numbers of the largest table, and of one with a token more.
+const LARGEST: usize = WIDTH * MOST;
+const OVER: usize = WIDTH * (MOST + 1);
+
+/// Lengths that are no table: no multiple of seven, the multiples of six among them, short and up to the longest; and a token too many.
+fn no_tables() -> impl Iterator<Item = usize> {
+    let short = (1..100).filter(|n| n % 7 != 0);
+    short.chain([6 * MOST, 6 * (MOST + 1), LARGEST - 1, LARGEST + 1, OVER - 1, OVER])
+}
+
+/// What is no table, and that nothing was written over it.
 fn tables(at: *mut u32) -> Result<(), String> {
-    let over = 6 * (MOST + 1);
     unsafe {
-        expect("lookup", ours::raw::lookup(at, over, 0, 0), BAD)?;
-        for mode in [Mode::Lenient, Mode::Checked] {
-            expect("premises", ours::raw::meets_premises(mode, at, over, 1, 1), 0)?;
+        for numbers in no_tables() {
+            expect("lookup", ours::raw::lookup(at, numbers, 0, 0), BAD)?;
+            for mode in [Mode::Lenient, Mode::Checked] {
+                expect("premises", ours::raw::meets_premises(mode, at, numbers, 1, 1), 0)?;
+            }
+            expect("translate", ours::raw::translate(at, numbers, 1, 1, 1), BAD)?;
         }
-        expect("translate", ours::raw::translate(at, over, 1, 1, 1), BAD)?;
         expect("translate, records", ours::raw::translate_tokens(at, MOST + 1, 1, 1, 1), BAD)?;
+        expect("nothing written", (0..100).all(|i| *at.add(i) == 0), true)?;
+        for tokens in 0..15 {
+            let last = if tokens == 0 { u64::from(NONE) } else { tokens as u64 - 1 };
+            expect("lookup, a table", ours::raw::lookup(at, 7 * tokens, 0, 0), answer(0, last))?;
+            expect("premises, a table", ours::raw::meets_premises(Mode::Lenient, at, 7 * tokens, 1, 1), 1)?;
+            expect("translate, a table", ours::raw::translate(at, 7 * tokens, 0, 0, 0), answer(0, 0))?;
+        }
         // A table to write in has no such limit.
-        expect("decode", ours::raw::decode(Entry::Lenient, b"A", at, over), (answer(0, 0), 1, 1))?;
-        let first: Vec<u32> = (0..7).map(|i| *at.add(i)).collect();
-        expect("the first numbers", first, vec![0, 0, 0, 0, NONE, NONE, 0])
+        expect("decode", ours::raw::decode(Entry::Lenient, b",A", (0, 0), at, OVER), (answer(0, 0), 1, 2))?;
+        let first: Vec<u32> = (0..8).map(|i| *at.add(i)).collect();
+        expect("the first numbers", first, vec![0, 0, 0, 0, NONE, NONE, 1, 0])
     }
 }
 
@@ -46,9 +64,11 @@ fn chunks(at: *mut u32) -> Result<(), String> {
     let last = TokenChunk { start: most - 1, ..chunk };
     let mut out = ours::LentBytes::new(8);
     unsafe {
-        expect("write, too many", ours::raw::encode(at, 6 * (MOST + 1), chunk, &mut out), (BAD, 0, chunk))?;
-        expect("write, nothing of the most", ours::raw::encode(at, 6 * MOST, chunk, &mut out), (answer(0, 0), 0, chunk))?;
-        expect("write, the last of the most", ours::raw::encode(at, 6 * MOST, last, &mut out), (answer(0, 0), 6, chunk))?;
+        for numbers in no_tables() {
+            expect("write, no table", ours::raw::encode(at, numbers, chunk, &mut out), (BAD, 0, chunk))?;
+        }
+        expect("write, nothing of the most", ours::raw::encode(at, LARGEST, chunk, &mut out), (answer(0, 0), 0, chunk))?;
+        expect("write, the last of the most", ours::raw::encode(at, LARGEST, last, &mut out), (answer(0, 0), 6, chunk))?;
     }
     expect("the bytes", out.is(b",AAAAA"), true)
 }
@@ -67,11 +87,15 @@ fn names(at: *mut u32) -> Result<(), String> {
         expect("names, too many", ours::raw::name_found(ends, most + 1, 0), 0)?;
         expect("names, the most", ours::raw::name_found(ends, most, most as u32 - 1), 1)?;
         expect("names, past the most", ours::raw::name_found(ends, most, most as u32), 0)?;
-        let over = 6 * (MOST + 1);
-        expect("compose, outer", ours::raw::compose_code(at, over, at, 6, ends, 0), BAD)?;
-        expect("compose, inner", ours::raw::compose_code(at, 6, at, over, ends, 0), BAD)?;
+        for numbers in no_tables() {
+            expect("compose, outer", ours::raw::compose_code(at, numbers, at, WIDTH, ends, 0), BAD)?;
+            expect("compose, inner", ours::raw::compose_code(at, WIDTH, at, numbers, ends, 0), BAD)?;
+        }
         let bad = answer(model::BAD_NAMES, 0);
-        expect("compose, names", ours::raw::compose_code(at, 6, at, 6, ends, most + 1), bad)
+        expect("compose, names", ours::raw::compose_code(at, WIDTH, at, WIDTH, ends, most + 1), bad)?;
+        // The largest tables are taken: what is refused is the room.
+        let full = answer(model::TABLE_FULL, 0);
+        expect("compose, the largest", ours::raw::compose_code(at, LARGEST, at, LARGEST, ends, 0), full)
     }
 }
 
@@ -83,7 +107,7 @@ fn names(_: *mut u32) -> Result<(), String> {
 pub fn run(tally: &mut Tally) {
     let begun = Instant::now();
     // Two lists, since decoding writes in the first.
-    let result = match (zeros(24 * (MOST + 1)), zeros(24 * (MOST + 1))) {
+    let result = match (zeros(4 * OVER), zeros(4 * OVER)) {
         (Some(first), Some(second)) => {
             tables(first.cast()).and_then(|()| chunks(second.cast())).and_then(|()| names(second.cast()))
         }

@@ -1,7 +1,7 @@
 //! Lookup. Ours is held to the model; the crate's `lookup_token_approx` differs in five ways, each told apart here.
 
-use crate::cases::{Case, Class, EDGES, Random, Tally, met_code};
-use crate::model::{self, NONE, Token, answer, table_of};
+use crate::cases::{Case, Class, EDGES, Random, Tally, met_code, other_segments, with_segments};
+use crate::model::{self, NONE, Token, WIDTH, answer, bad_table, table_of};
 use crate::ours;
 use crate::theirs::{BUILDS, Looked};
 
@@ -67,7 +67,7 @@ fn foreseen(run: &[Token], col: u32) -> Looked {
         Some(i) => Some(run[i]),
         None => run.iter().rfind(|t| t.dst_col < col).copied(),
     };
-    (plain.or(run.first().copied()), plain)
+    (plain.or(run.first().copied()).map(|t| t.six()), plain.map(|t| t.six()))
 }
 
 #[derive(Clone)]
@@ -89,15 +89,8 @@ impl std::fmt::Debug for Ask {
 impl Ask {
     /// Tokens that differ from each other: the source line is the index.
     pub fn tokens(&self) -> Vec<Token> {
-        let token = |(i, &(dst_line, dst_col)): (usize, &(u32, u32))| Token {
-            dst_line,
-            dst_col,
-            src_line: i as u32,
-            src_col: 5,
-            source_id: 0,
-            name_id: NONE,
-        };
-        self.places.iter().enumerate().map(token).collect()
+        let token = |(i, &(dst_line, dst_col)): (usize, &(u32, u32))| Token::with([dst_line, dst_col, i as u32, 5, 0, NONE], 0);
+        with_segments(&self.places.iter().enumerate().map(token).collect::<Vec<_>>(), 0)
     }
 }
 
@@ -111,11 +104,15 @@ impl Case for Ask {
             return Err(format!("ours {got:?}, the model {want:?}"));
         }
         met_code("lookup", got.code);
-        let bad = &table[..table.len() - table.len().min(1 + self.col as usize % 5)];
-        if bad.len() % 6 != 0 && ours::lookup(bad, self.line, self.col) != answer(model::BAD_TABLE, 0) {
-            return Err(format!("{} numbers are taken", bad.len()));
+        let other = ours::lookup(&other_segments(&table), self.line, self.col);
+        if other != got {
+            return Err(format!("ours {got:?}, and {other:?} with other segments"));
         }
-        if bad.len() % 6 != 0 {
+        let bad = &table[..table.len() - table.len().min(1 + self.col as usize % (WIDTH - 1))];
+        if bad_table(bad.len()) {
+            if ours::lookup(bad, self.line, self.col) != answer(model::BAD_TABLE, 0) {
+                return Err(format!("{} numbers are taken", bad.len()));
+            }
             met_code("lookup", model::BAD_TABLE);
         }
         if tokens.iter().any(|t| t.dst_line > LINES) {
@@ -141,7 +138,7 @@ impl Case for Ask {
                 }
                 _ => return Err(format!("the {} crate gives {theirs:?}", build.name)),
             }
-            let same = theirs.is_some_and(|(approx, _)| approx == ours);
+            let same = theirs.is_some_and(|(approx, _)| approx == ours.map(|t| t.six()));
             match class {
                 None if !same => return Err(format!("the {} crate gives {theirs:?}, ours {ours:?}", build.name)),
                 Some(c) if !same && build.name == "release" => classes.push(c),

@@ -18,16 +18,38 @@ pub struct Token {
     pub src_col: u32,
     pub source_id: u32,
     pub name_id: u32,
+    /// Where its segment begins in the text that it was decoded from.
+    pub segment: u32,
 }
 
+/// The numbers of a token in a table.
+pub const WIDTH: usize = 7;
+
+/// What the crate has of a token: all but the segment.
+pub type Six = [u32; 6];
+
 impl Token {
-    pub fn numbers(&self) -> [u32; 6] {
+    pub fn six(&self) -> Six {
         [self.dst_line, self.dst_col, self.src_line, self.src_col, self.source_id, self.name_id]
     }
 
-    pub fn of(n: &[u32]) -> Token {
-        Token { dst_line: n[0], dst_col: n[1], src_line: n[2], src_col: n[3], source_id: n[4], name_id: n[5] }
+    pub fn numbers(&self) -> [u32; WIDTH] {
+        let [a, b, c, d, e, f] = self.six();
+        [a, b, c, d, e, f, self.segment]
     }
+
+    pub fn with(six: Six, segment: u32) -> Token {
+        let [dst_line, dst_col, src_line, src_col, source_id, name_id] = six;
+        Token { dst_line, dst_col, src_line, src_col, source_id, name_id, segment }
+    }
+
+    pub fn of(n: &[u32]) -> Token {
+        Token::with([n[0], n[1], n[2], n[3], n[4], n[5]], n[6])
+    }
+}
+
+pub fn sixes(tokens: &[Token]) -> Vec<Six> {
+    tokens.iter().map(Token::six).collect()
 }
 
 pub fn table_of(tokens: &[Token]) -> Vec<u32> {
@@ -35,7 +57,7 @@ pub fn table_of(tokens: &[Token]) -> Vec<u32> {
 }
 
 pub fn tokens_of(table: &[u32]) -> Vec<Token> {
-    table.chunks_exact(6).map(Token::of).collect()
+    table.chunks_exact(WIDTH).map(Token::of).collect()
 }
 
 pub const DONE: u64 = 0;
@@ -152,6 +174,9 @@ pub struct Decoded {
 
 const WORD: i128 = 1 << 32;
 
+/// A segment that begins here or later has no token: the number is that of none.
+const FIRST_TOO_BIG: usize = 4_294_967_295;
+
 /// A refusal, and the field that it is about: none for the segment as a whole.
 type Refused = (Answer, Option<usize>);
 
@@ -176,7 +201,7 @@ struct Running {
     name_id: u32,
 }
 
-/// The values, then steps 1 to 5.
+/// The values, then steps 1 to 5. Where the segment begins is not known here.
 fn segment(mode: Mode, sources: u32, names: u32, run: &mut Running, numbers: &[u128]) -> Result<Token, Refused> {
     let mut values = Vec::new();
     for (field, &number) in numbers.iter().enumerate() {
@@ -199,6 +224,7 @@ fn segment(mode: Mode, sources: u32, names: u32, run: &mut Running, numbers: &[u
         src_col: run.src_col,
         source_id: NONE,
         name_id: NONE,
+        segment: NONE,
     };
     if values.len() == 1 {
         return Ok(token);
@@ -258,8 +284,9 @@ pub fn decode(mode: Mode, text: &[u8], sources: u32, names: u32, places: usize) 
         }
         match segment(mode, sources, names, &mut run, &numbers) {
             Err((a, field)) => return refused(a, tokens, field.map_or(start, |field| places_of_fields[field])),
+            Ok(_) if start >= FIRST_TOO_BIG => return refused(answer(TOO_BIG, tokens.len() as u64), tokens, start),
             Ok(_) if tokens.len() >= places => return refused(answer(TABLE_FULL, 0), tokens, start),
-            Ok(token) => tokens.push(token),
+            Ok(token) => tokens.push(Token { segment: start as u32, ..token }),
         }
     }
     Decoded { answer: answer(DONE, 0), tokens, offset: text.len(), start: text.len() }
@@ -267,7 +294,7 @@ pub fn decode(mode: Mode, text: &[u8], sources: u32, names: u32, places: usize) 
 
 /// The numbers of a table with a place for each run of bytes that are no delimiter.
 pub fn table_size(text: &[u8]) -> usize {
-    6 * text.split(|&b| is_delimiter(b)).filter(|run| !run.is_empty()).count()
+    WIDTH * text.split(|&b| is_delimiter(b)).filter(|run| !run.is_empty()).count()
 }
 
 // ---------------------------------------------------------------- writing
@@ -309,7 +336,7 @@ pub struct Encoded {
 
 /// Whether so many numbers are no table, as input.
 pub fn bad_table(numbers: usize) -> bool {
-    numbers % 6 != 0 || numbers / 6 > MOST
+    numbers % WIDTH != 0 || numbers / WIDTH > MOST
 }
 
 /// Whether what is written of the table surely reads back.
@@ -367,11 +394,11 @@ pub fn encode(table: &[u32], chunk: TokenChunk, room: usize) -> Encoded {
     if bad_table(table.len()) {
         return refused(BAD_TABLE, 0);
     }
-    let count = table.len() / 6;
+    let count = table.len() / WIDTH;
     if chunk.start > chunk.end || chunk.end as usize > count {
         return refused(BAD_CHUNK, 0);
     }
-    let part = tokens_of(&table[6 * chunk.start as usize..6 * chunk.end as usize]);
+    let part = tokens_of(&table[WIDTH * chunk.start as usize..WIDTH * chunk.end as usize]);
     let mut line = chunk.prev_dst_line;
     for (i, t) in part.iter().enumerate() {
         if t.dst_line < line {
@@ -512,7 +539,7 @@ pub fn compose_refusal(outer: &Outer, inner: &Inner, result: usize, added: usize
     if !outer.names.sound() || !inner.names.sound() {
         return Some(answer(BAD_NAMES, 0));
     }
-    if result / 6 < outer.table.len() / 6 {
+    if result / WIDTH < outer.table.len() / WIDTH {
         return Some(answer(TABLE_FULL, 0));
     }
     if added < outer.names.count() {
@@ -535,8 +562,9 @@ pub fn composed(outer: &Outer, inner: &Inner, look: &dyn Fn(u32, u32) -> Option<
                 src_col: o.src_col,
                 source_id: o.source_id,
                 name_id: if o.name_id != NONE { o.name_id } else { name_for(outer.names, inner.names, &mut added, t.name_id) },
+                segment: t.segment,
             },
-            _ => Token { dst_line: t.dst_line, dst_col: t.dst_col, src_line: 0, src_col: 0, source_id: NONE, name_id: NONE },
+            _ => Token { src_line: 0, src_col: 0, source_id: NONE, name_id: NONE, ..t },
         };
         tokens.push(token);
     }

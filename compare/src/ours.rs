@@ -1,7 +1,7 @@
 //! The library by its C names. What is lent stands between two stretches of a pattern, and comes back with a word on
 //! whether they, and everything lent for reading only, still hold it.
 
-use crate::model::{Answer, Mode, NameOf, Names, Token, TokenChunk};
+use crate::model::{Answer, Mode, NameOf, Names, Token, TokenChunk, WIDTH};
 
 #[repr(C)]
 pub struct DecodedOut {
@@ -128,8 +128,8 @@ pub fn translate(table: &mut Lent, line: u32, source: u32, name: u32) -> Answer 
 
 /// The same over records, lent in the same memory.
 pub fn translate_tokens(table: &mut Lent, line: u32, source: u32, name: u32) -> Answer {
-    assert!(table.len % 6 == 0);
-    unsafe { pgk_translate_tokens(table.ptr().cast(), table.len / 6, line, source, name) }
+    assert!(table.len % WIDTH == 0);
+    unsafe { pgk_translate_tokens(table.ptr().cast(), table.len / WIDTH, line, source, name) }
 }
 
 pub fn lookup(table: &[u32], line: u32, col: u32) -> Answer {
@@ -157,8 +157,14 @@ pub fn meets_premises(mode: Mode, table: &[u32], sources: u32, names: u32) -> u6
 pub mod raw {
     use super::*;
 
-    pub unsafe fn decode(entry: Entry, text: &[u8], table: *mut u32, numbers: usize) -> (Answer, u64, u64) {
-        let d = unsafe { entry.function()(text.as_ptr(), text.len(), 0, 0, table, numbers) };
+    pub unsafe fn decode(
+        entry: Entry,
+        text: &[u8],
+        (sources, names): (u32, u32),
+        table: *mut u32,
+        numbers: usize,
+    ) -> (Answer, u64, u64) {
+        let d = unsafe { entry.function()(text.as_ptr(), text.len(), sources, names, table, numbers) };
         (Answer { code: d.code, number: d.number }, d.tokens, d.offset)
     }
 

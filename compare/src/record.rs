@@ -7,11 +7,11 @@ use std::collections::HashMap;
 use std::fs;
 use std::path::Path;
 
-use crate::cases::{Case, EDGES, Random};
+use crate::cases::{Case, EDGES, Random, with_segments};
 use crate::composing::{self, Pair};
 use crate::decoding::{self, Text};
 use crate::looking::{self, Ask};
-use crate::model::{NONE, Names, Token, TokenChunk, is_delimiter, table_of, tokens_of};
+use crate::model::{NONE, Names, Six, Token, TokenChunk, WIDTH, bad_table, is_delimiter, sixes, table_of, tokens_of};
 use crate::theirs::{BUILDS, RELEASE};
 use crate::translating::Move;
 use crate::writing::{self, Write};
@@ -19,7 +19,7 @@ use crate::writing::{self, Write};
 const BLOCK: usize = 4096;
 
 /// The numbers and bytes that the replay crates have room for.
-const NUMBERS: usize = 400;
+const NUMBERS: usize = 480;
 const BYTES: usize = 3000;
 const ENDS: usize = 32;
 
@@ -80,7 +80,7 @@ struct Decoded {
     number: u64,
     offset: usize,
     start: usize,
-    tokens: Vec<Token>,
+    tokens: Vec<Six>,
 }
 
 /// The crate's answer; where it refuses, the segment is the first whose end it does not pass, and the offset is told by its answers on
@@ -108,7 +108,11 @@ fn decoded(case: &Text) -> Option<Decoded> {
 fn put_text(file: &mut File, case: &Text) {
     if let Some(d) = decoded(case) {
         let mut numbers = vec![case.sources, case.names, d.code as u32, d.number as u32, d.offset as u32];
-        numbers.extend(table_of(&d.tokens));
+        // The crate has no segments: those are where the pieces of the text begin.
+        let segments = decoding::pieces(&case.text).into_iter().map(|piece| piece.start as u32);
+        let tokens: Vec<Token> = d.tokens.iter().zip(segments).map(|(&six, segment)| Token::with(six, segment)).collect();
+        assert!(tokens.len() == d.tokens.len(), "fewer pieces than tokens in {}", case.show());
+        numbers.extend(table_of(&tokens));
         file.record('d', &numbers, &case.text);
     }
 }
@@ -243,7 +247,10 @@ fn put_chunk(file: &mut File, case: &Write) {
 fn encode(file: &mut File, seed: u64) {
     let mut random = Random::new(seed, "recorded chunks");
     file.group("encode: worked and equal tokens");
-    let pair = [[0, 0, 2, 3, 0, NONE], [1, 1, 2, 3, NONE, NONE]].concat();
+    let varied = |list: &[Six], other: u64| {
+        table_of(&with_segments(&list.iter().map(|&six| Token::with(six, 0)).collect::<Vec<_>>(), other))
+    };
+    let pair = varied(&[[0, 0, 2, 3, 0, NONE], [1, 1, 2, 3, NONE, NONE]], 0);
     for (start, end) in [(0, 2), (0, 1), (1, 2)] {
         let chunk = TokenChunk { start, end, prev_src_line: 2 * start, prev_src_col: 3 * start, ..TokenChunk::default() };
         put_chunk(file, &Write { table: pair.clone(), chunk });
@@ -251,12 +258,12 @@ fn encode(file: &mut File, seed: u64) {
     for numbers in [[0; 6], [0, 0, 0, 0, 0, NONE], [2, 7, 1, 1, 3, 4], [0, 1, 0, 0, NONE, NONE]] {
         for count in 2..=4 {
             let chunk = TokenChunk { end: count, ..TokenChunk::default() };
-            put_chunk(file, &Write { table: numbers.repeat(count as usize), chunk });
+            put_chunk(file, &Write { table: varied(&vec![numbers; count as usize], 0), chunk });
         }
     }
     file.group("encode: small lists");
     writing::small_lists(&mut |case| {
-        if case.table.len() < 12 || random.one_in(15) {
+        if case.table.len() < 2 * WIDTH || random.one_in(15) {
             put_chunk(file, &case);
         }
         true
@@ -277,7 +284,7 @@ fn encode(file: &mut File, seed: u64) {
                     prev_name_id: before,
                     prev_source_id: before,
                 };
-                put_chunk(file, &Write { table: numbers.to_vec(), chunk });
+                put_chunk(file, &Write { table: varied(&[numbers], before.into()), chunk });
             }
         }
     }
@@ -299,7 +306,7 @@ fn encode(file: &mut File, seed: u64) {
                         prev_name_id: before(5),
                         prev_source_id: before(4),
                     };
-                    put_chunk(file, &Write { table: numbers.to_vec(), chunk });
+                    put_chunk(file, &Write { table: varied(&[numbers], 0), chunk });
                 }
             }
         }
@@ -329,13 +336,21 @@ fn encode(file: &mut File, seed: u64) {
 
 fn put_move(file: &mut File, case: &Move) {
     let tokens = tokens_of(&case.table);
-    if case.table.len() % 6 != 0 || crate::model::translate(&tokens, case.line, case.source, case.name).is_err() {
+    if bad_table(case.table.len()) || crate::model::translate(&tokens, case.line, case.source, case.name).is_err() {
         return;
     }
     let moved = (RELEASE.translate)(&tokens, case.line, case.source, case.name).expect("the crate translates it");
+    let moved = with_segments_of(&moved, &tokens);
     let mut numbers = vec![case.line, case.source, case.name];
     numbers.extend(&case.table);
     file.record('t', &numbers, numbers_text(&table_of(&moved)).as_bytes());
+}
+
+/// The crate's tokens, each with the segment that came in with the token in its place: translating keeps it, and composing takes the
+/// outer token's.
+fn with_segments_of(six: &[Six], tokens: &[Token]) -> Vec<Token> {
+    assert!(six.len() == tokens.len());
+    six.iter().zip(tokens).map(|(&six, t)| Token::with(six, t.segment)).collect()
 }
 
 fn translate(file: &mut File, seed: u64) {
@@ -365,7 +380,7 @@ fn put_ask(file: &mut File, case: &Ask) {
         return;
     }
     let found = (RELEASE.look)(&tokens, &[(case.line, case.col)]).expect("the crate looks it up")[0].0;
-    let mut numbers = vec![case.line, case.col, found.map_or(NONE, |t| t.src_line)];
+    let mut numbers = vec![case.line, case.col, found.map_or(NONE, |[_, _, src_line, ..]| src_line)];
     numbers.extend(table_of(&tokens));
     file.record('l', &numbers, b"");
 }
@@ -411,7 +426,7 @@ fn put_pair(file: &mut File, case: &Pair) {
     // The crate adds names and no ids: the ids are the model's, and name what the crate added.
     let count = case.inner_names.count();
     let m = case.model();
-    assert!(m.tokens == tokens, "the model differs on {case:?}");
+    assert!(sixes(&m.tokens) == tokens, "the model differs on {case:?}");
     let added = m.added;
     assert!(names[count..].iter().zip(&added).all(|(name, &id)| name == case.outer_names.name(id as usize)));
     assert!(names.len() == count + added.len());
@@ -426,7 +441,7 @@ fn put_pair(file: &mut File, case: &Pair) {
     ];
     numbers.extend(&case.outer);
     numbers.extend(&case.inner);
-    numbers.extend(table_of(&tokens));
+    numbers.extend(table_of(&with_segments_of(&tokens, &outer)));
     numbers.extend(case.outer_names.ends.iter().chain(&case.inner_names.ends).map(|&e| e as u32));
     numbers.extend(added);
     let text = [&case.outer_names.text[..end(&case.outer_names)], &case.inner_names.text[..]].concat();
@@ -449,8 +464,7 @@ fn compose(file: &mut File, seed: u64) {
     for outer_list in lists {
         for inner_list in lists {
             let (outer_names, inner_names) = (composing::names_of(outer_list, b""), composing::names_of(inner_list, b"x"));
-            let at =
-                |col: u32, name_id: u32| Token { dst_line: 0, dst_col: col, src_line: 0, src_col: col, source_id: 0, name_id };
+            let at = |col: u32, name_id: u32| Token::with([0, col, 0, col, 0, name_id], 0);
             let ids = (0..outer_list.len() as u32 + 1).rev();
             let outer: Vec<Token> = ids.clone().chain(ids).enumerate().map(|(i, id)| at(i as u32, id)).collect();
             for inner_id in [NONE, 0, inner_list.len() as u32] {
@@ -458,12 +472,12 @@ fn compose(file: &mut File, seed: u64) {
                 put_pair(
                     file,
                     &Pair {
-                        outer: table_of(&outer),
+                        outer: table_of(&with_segments(&outer, 0)),
                         sources: 1,
                         outer_names: outer_names.clone(),
-                        inner: table_of(&inner),
+                        inner: table_of(&with_segments(&inner, 1)),
                         inner_names: inner_names.clone(),
-                        result: 6 * outer.len(),
+                        result: WIDTH * outer.len(),
                         added: outer_list.len(),
                     },
                 );

@@ -1,9 +1,10 @@
-//! The crate, in its debug and its release build, with the model's tokens on both sides. A panic is an answer: `None`.
+//! The crate, in its debug and its release build. It takes the model's tokens without the segment, and gives six numbers for each of
+//! its own. A panic is an answer: `None`.
 
 use std::borrow::Cow;
 use std::panic::{AssertUnwindSafe, catch_unwind};
 
-use crate::model::{self, Answer, NONE, Names, Token, TokenChunk, answer};
+use crate::model::{self, Answer, NONE, Names, Six, Token, TokenChunk, answer};
 
 pub const BUILDS: [Build; 2] = [
     Build {
@@ -29,21 +30,21 @@ pub const BUILDS: [Build; 2] = [
 pub const RELEASE: Build = BUILDS[1];
 
 /// What the crate's lookups give: the clamping one, then the plain one.
-pub type Looked = (Option<Token>, Option<Token>);
+pub type Looked = (Option<Six>, Option<Six>);
 
 #[derive(Clone, Copy)]
 pub struct Build {
     pub name: &'static str,
     /// The tokens, or the refusal.
-    pub decode: fn(&str, u32, u32) -> Option<Result<Vec<Token>, Answer>>,
+    pub decode: fn(&str, u32, u32) -> Option<Result<Vec<Six>, Answer>>,
     pub encode: fn(&[Token], TokenChunk) -> Option<Vec<u8>>,
     /// The text of a difference's value, by way of a token with one field.
     pub value: fn(u32, u32) -> u64,
-    pub translate: fn(&[Token], u32, u32, u32) -> Option<Vec<Token>>,
+    pub translate: fn(&[Token], u32, u32, u32) -> Option<Vec<Six>>,
     /// The answers to a list of positions; none of it where making the lookup table panics.
     pub look: fn(&[Token], &[(u32, u32)]) -> Option<Vec<Looked>>,
     /// The tokens and the names of the composed map.
-    pub compose: fn(&[Token], usize, &Names, &[Token], &Names) -> Option<(Vec<Token>, Vec<Vec<u8>>)>,
+    pub compose: fn(&[Token], usize, &Names, &[Token], &Names) -> Option<(Vec<Six>, Vec<Vec<u8>>)>,
 }
 
 fn caught<T>(f: impl FnOnce() -> T) -> Option<T> {
@@ -72,15 +73,9 @@ macro_rules! build {
                 tokens.iter().map(into).collect()
             }
 
-            fn from(t: $krate::Token) -> Token {
-                Token {
-                    dst_line: t.get_dst_line(),
-                    dst_col: t.get_dst_col(),
-                    src_line: t.get_src_line(),
-                    src_col: t.get_src_col(),
-                    source_id: t.get_source_id().unwrap_or(NONE),
-                    name_id: t.get_name_id().unwrap_or(NONE),
-                }
+            fn from(t: $krate::Token) -> Six {
+                let (source, name) = (t.get_source_id().unwrap_or(NONE), t.get_name_id().unwrap_or(NONE));
+                [t.get_dst_line(), t.get_dst_col(), t.get_src_line(), t.get_src_col(), source, name]
             }
 
             fn map(tokens: &[Token], sources: usize, names: &Names) -> SourceMap<'static> {
@@ -88,7 +83,7 @@ macro_rules! build {
                 SourceMap::new(None, list_of(names), None, sources, vec![], all(tokens).into_boxed_slice(), None)
             }
 
-            pub fn decode(text: &str, sources: u32, names: u32) -> Option<Result<Vec<Token>, Answer>> {
+            pub fn decode(text: &str, sources: u32, names: u32) -> Option<Result<Vec<Six>, Answer>> {
                 caught(|| match reach::decode_mapping(text, names as usize, sources as usize) {
                     Ok(tokens) => Ok(tokens.into_iter().map(from).collect()),
                     Err(e) => Err(match e {
@@ -126,7 +121,7 @@ macro_rules! build {
                 reach::vlq_value(a, b)
             }
 
-            pub fn translate(tokens: &[Token], line: u32, source: u32, name: u32) -> Option<Vec<Token>> {
+            pub fn translate(tokens: &[Token], line: u32, source: u32, name: u32) -> Option<Vec<Six>> {
                 caught(|| tokens.iter().map(|t| from(reach::translated(into(t), line, source, name))).collect())
             }
 
@@ -149,7 +144,7 @@ macro_rules! build {
                 outer_names: &Names,
                 inner: &[Token],
                 inner_names: &Names,
-            ) -> Option<(Vec<Token>, Vec<Vec<u8>>)> {
+            ) -> Option<(Vec<Six>, Vec<Vec<u8>>)> {
                 let outer = map(outer, sources, outer_names);
                 let inner = map(inner, 1, inner_names);
                 caught(|| {

@@ -1,8 +1,8 @@
 //! Translating, over tables and over records. Where the rules refuse, the crate panics, wraps or loses an id.
 
-use crate::cases::{Case, Class, EDGES, Random, Tally, met_code};
+use crate::cases::{Case, Class, EDGES, Random, Tally, met_code, with_segments};
 use crate::decoding::random_tokens;
-use crate::model::{self, Answer, NONE, Token, answer, bad_table, table_of, tokens_of};
+use crate::model::{self, Answer, NONE, Six, Token, WIDTH, answer, bad_table, sixes, table_of, tokens_of};
 use crate::ours::{self, Lent};
 use crate::theirs::BUILDS;
 
@@ -18,7 +18,7 @@ pub struct Move {
 }
 
 /// What the crate's plain sums give, and whether one of them passes 32 bits.
-fn plain_sums(tokens: &[Token], line: u32, source: u32, name: u32) -> (Vec<Token>, bool) {
+fn plain_sums(tokens: &[Token], line: u32, source: u32, name: u32) -> (Vec<Six>, bool) {
     let mut past = false;
     let mut sum = |a: u32, b: u32| {
         past |= a.checked_add(b).is_none();
@@ -26,28 +26,29 @@ fn plain_sums(tokens: &[Token], line: u32, source: u32, name: u32) -> (Vec<Token
     };
     let moved = tokens
         .iter()
-        .map(|t| Token {
-            dst_line: sum(t.dst_line, line),
-            source_id: if t.source_id == NONE { NONE } else { sum(t.source_id, source) },
-            name_id: if t.name_id == NONE { NONE } else { sum(t.name_id, name) },
-            ..*t
+        .map(|t| {
+            let source = if t.source_id == NONE { NONE } else { sum(t.source_id, source) };
+            let name = if t.name_id == NONE { NONE } else { sum(t.name_id, name) };
+            [sum(t.dst_line, line), t.dst_col, t.src_line, t.src_col, source, name]
         })
         .collect();
     (moved, past)
 }
 
 impl Move {
+    /// Both forms against the model; and the segments as they were, whatever the answer.
     fn ours(&self, want: Answer, after: &[u32]) -> Result<(), String> {
+        let kept = |table: &Lent| (6..after.len()).step_by(WIDTH).all(|i| table.numbers()[i] == self.table[i]);
         let mut table = Lent::holding(&self.table);
         let got = ours::translate(&mut table, self.line, self.source, self.name);
-        if got != want || !table.is(after) {
+        if got != want || !table.is(after) || !kept(&table) {
             return Err(format!("over a table: {got:?} and {:?}, the model has {want:?} and {after:?}", table.numbers()));
         }
         met_code("translate", got.code);
-        if self.table.len() % 6 == 0 {
+        if self.table.len() % WIDTH == 0 {
             let mut table = Lent::holding(&self.table);
             let got = ours::translate_tokens(&mut table, self.line, self.source, self.name);
-            if got != want || !table.is(after) {
+            if got != want || !table.is(after) || !kept(&table) {
                 return Err(format!("over records: {got:?} and {:?}, the model has {want:?} and {after:?}", table.numbers()));
             }
             met_code("translate, records", got.code);
@@ -68,7 +69,7 @@ impl Case for Move {
         match model::translate(&tokens, self.line, self.source, self.name) {
             Ok(moved) => {
                 self.ours(answer(model::DONE, 0), &table_of(&moved))?;
-                if past || plain != moved {
+                if past || plain != sixes(&moved) {
                     return Err(format!("the model has {moved:?}, plain sums {plain:?}"));
                 }
             }
@@ -90,9 +91,9 @@ impl Case for Move {
 
     fn smaller(&self) -> Vec<Move> {
         let mut list = Vec::new();
-        for i in 0..self.table.len() / 6 {
+        for i in 0..self.table.len() / WIDTH {
             let mut m = self.clone();
-            m.table.drain(6 * i..6 * i + 6);
+            m.table.drain(WIDTH * i..WIDTH * (i + 1));
             list.push(m);
         }
         for i in 0..self.table.len() + 3 {
@@ -110,7 +111,7 @@ impl Case for Move {
             1 => 1,
             _ => 2,
         };
-        let ids = |i: usize| i < self.table.len() && i % 6 > 3;
+        let ids = |i: usize| i < self.table.len() && i % WIDTH > 3;
         let numbers = (0..self.table.len() + 3).map(|i| cost(*m.number(i)) - if ids(i) && self.table[i] == NONE { 2 } else { 0 });
         100 * self.table.len() + numbers.sum::<usize>()
     }
@@ -137,8 +138,8 @@ pub fn edges(go: &mut dyn FnMut(Move) -> bool) {
                 for source_id in few {
                     for name in few {
                         for name_id in few {
-                            let t = Token { dst_line, dst_col: 7, src_line: 8, src_col: NONE, source_id, name_id };
-                            if !go(Move { table: table_of(&[t]), line, source, name }) {
+                            let t = Token::with([dst_line, 7, 8, NONE, source_id, name_id], 0);
+                            if !go(Move { table: table_of(&with_segments(&[t], 0)), line, source, name }) {
                                 return;
                             }
                         }

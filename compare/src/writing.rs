@@ -1,8 +1,8 @@
 //! Writing: bytes against the crate, end states by way of the next chunk, refusals and rooms against the model.
 
-use crate::cases::{Case, Class, EDGES, Random, Tally, met_code};
-use crate::decoding::random_tokens;
-use crate::model::{self, Encoded, Mode, NONE, Token, TokenChunk, answer, table_of, tokens_of};
+use crate::cases::{Case, Class, EDGES, Random, Tally, met_code, other_segments, with_segments};
+use crate::decoding::{pieces, random_tokens};
+use crate::model::{self, Encoded, Mode, NONE, Token, TokenChunk, WIDTH, answer, sixes, table_of, tokens_of};
 use crate::ours::{self, Entry, Lent, LentBytes, writer};
 use crate::theirs::BUILDS;
 
@@ -20,10 +20,19 @@ pub struct Write {
 
 /// The library's answer for a room, all of it held to the model.
 fn ours_agrees(table: &[u32], chunk: TokenChunk, room: usize) -> Result<(), String> {
+    ours_is(&model::encode(table, chunk, room), table, chunk, room)
+}
+
+/// The same with other segments, which the writer does not look at.
+fn ours_agrees_still(table: &[u32], chunk: TokenChunk, room: usize) -> Result<(), String> {
+    let m = model::encode(table, chunk, room);
+    ours_is(&m, &other_segments(table), chunk, room).map_err(|why| format!("with other segments: {why}"))
+}
+
+fn ours_is(m: &Encoded, table: &[u32], chunk: TokenChunk, room: usize) -> Result<(), String> {
     if !writer::HERE {
         return Ok(());
     }
-    let m = model::encode(table, chunk, room);
     let mut out = LentBytes::new(room);
     let (a, bytes, next) = writer::encode(table, chunk, &mut out);
     let want = (m.answer, m.text.len() as u64, m.next);
@@ -59,7 +68,7 @@ impl Write {
         let mut tokens = tokens_of(&self.table);
         tokens.truncate(self.chunk.end as usize);
         let line = m.next.prev_dst_line;
-        let probe = Token { dst_line: line, dst_col: 3, src_line: 4, src_col: 5, source_id: 6, name_id: 7 };
+        let probe = Token::with([line, 3, 4, 5, 6, 7], 8);
         tokens.push(probe);
         tokens.push(Token { dst_line: line.saturating_add(1), ..probe });
         let end = tokens.len() as u32;
@@ -82,10 +91,11 @@ impl Write {
     /// does ours in checked mode where its own test says yes; else a value is too wide.
     fn premises_agree(&self) -> Result<(), String> {
         let largest = |at: usize| {
-            let ids = self.table.iter().skip(at).step_by(6).filter(|&&id| id != NONE);
+            let ids = self.table.iter().skip(at).step_by(WIDTH).filter(|&&id| id != NONE);
             ids.copied().max().map_or(0, |id| id + 1)
         };
         let (sources, names) = (largest(4), largest(5));
+        let others = other_segments(&self.table);
         for (s, n) in [(sources, names), (sources.max(1) - 1, names), (sources, names.max(1) - 1), (names, sources)] {
             let (lenient, checked) = (model::meets_premises(&self.table, s, n), model::meets_checked_premises(&self.table, s, n));
             for (mode, part, want) in
@@ -95,19 +105,25 @@ impl Write {
                 if ours != u64::from(want) {
                     return Err(format!("{part}, with {s} sources and {n} names: ours {ours}, the model {want}"));
                 }
+                if ours::meets_premises(mode, &others, s, n) != ours {
+                    return Err(format!("{part}, with {s} sources and {n} names: another answer with other segments"));
+                }
                 met_code(part, ours);
             }
-            let chunk = TokenChunk { end: (self.table.len() / 6) as u32, ..TokenChunk::default() };
+            let chunk = TokenChunk { end: (self.table.len() / WIDTH) as u32, ..TokenChunk::default() };
             if lenient && model::encode(&self.table, chunk, 0).answer.number <= LONG {
                 let tokens = tokens_of(&self.table);
                 for build in BUILDS {
                     let text = (build.encode)(&tokens, chunk).and_then(|text| String::from_utf8(text).ok()).unwrap_or_default();
-                    if (build.decode)(&text, s, n) != Some(Ok(tokens.clone())) {
+                    if (build.decode)(&text, s, n) != Some(Ok(sixes(&tokens))) {
                         return Err(format!("the premises are met, and the {} crate does not read it back", build.name));
                     }
                     let mut again = Lent::new(self.table.len());
                     let (a, count, _) = ours::decode(Entry::Checked, text.as_bytes(), s, n, &mut again);
-                    let back = a == answer(model::DONE, 0) && count as usize == tokens.len() && again.is(&self.table);
+                    // What is read back has the segments of the text that was written.
+                    let segments = pieces(text.as_bytes()).into_iter().map(|piece| piece.start as u32);
+                    let read: Vec<Token> = tokens.iter().zip(segments).map(|(t, segment)| Token { segment, ..*t }).collect();
+                    let back = a == answer(model::DONE, 0) && count as usize == tokens.len() && again.is(&table_of(&read));
                     if back != checked || (!checked && a.code != model::WIDE_VALUE) {
                         return Err(format!(
                             "the test of checked mode's premises says {checked}, and to read it back gives {a:?}"
@@ -136,17 +152,18 @@ impl Case for Write {
         }
         let need = need as usize;
         ours_agrees(&self.table, self.chunk, need)?;
+        ours_agrees_still(&self.table, self.chunk, need)?;
         ours_agrees(&self.table, self.chunk, need + 1 + need % 50)?;
         if need > 0 {
             ours_agrees(&self.table, self.chunk, need - 1)?;
             // 36 bytes a token and one a line hold any text: a room on either side of that.
             let tokens = (self.chunk.end - self.chunk.start) as usize;
-            let line = self.table[6 * self.chunk.end as usize - 6];
+            let line = self.table[WIDTH * (self.chunk.end as usize - 1)];
             let most = 36 * tokens + (line - self.chunk.prev_dst_line) as usize;
             ours_agrees(&self.table, self.chunk, most)?;
             ours_agrees(&self.table, self.chunk, most.max(1) - 1)?;
         }
-        if self.table.len() % 6 != 0 {
+        if self.table.len() % WIDTH != 0 {
             return Ok(classes);
         }
         let tokens = tokens_of(&self.table);
@@ -188,9 +205,9 @@ impl Case for Write {
 
     fn smaller(&self) -> Vec<Write> {
         let mut list = Vec::new();
-        for i in 0..self.table.len() / 6 {
+        for i in 0..self.table.len() / WIDTH {
             let mut w = self.clone();
-            w.table.drain(6 * i..6 * i + 6);
+            w.table.drain(WIDTH * i..WIDTH * (i + 1));
             let c = &mut w.chunk;
             c.start -= u32::from(i < c.start as usize);
             c.end -= u32::from(i < c.end as usize);
@@ -198,7 +215,7 @@ impl Case for Write {
         }
         for i in 0..self.table.len() {
             let mut w = self.clone();
-            w.table[i] = if i % 6 < 4 || w.table[i] < 9 { 0 } else { NONE };
+            w.table[i] = if i % WIDTH < 4 || w.table[i] < 9 { 0 } else { NONE };
             list.push(w);
         }
         let c = self.chunk;
@@ -226,7 +243,7 @@ impl Case for Write {
 
     fn show(&self) -> String {
         let c = &self.chunk;
-        let tokens: Vec<String> = self.table.chunks(6).map(|t| format!("{t:?}")).collect();
+        let tokens: Vec<String> = self.table.chunks(WIDTH).map(|t| format!("{t:?}")).collect();
         format!(
             "tokens {}, chunk {} {} after {} {} {} {} {} {}",
             tokens.join(" "),
@@ -339,6 +356,7 @@ fn edges(random: &mut Random, cases: usize, go: &mut dyn FnMut(Write) -> bool) {
                 src_col: edge(random),
                 source_id: edge(random),
                 name_id: edge(random),
+                segment: 0,
             });
         }
         let chunk = TokenChunk {
@@ -351,7 +369,7 @@ fn edges(random: &mut Random, cases: usize, go: &mut dyn FnMut(Write) -> bool) {
             prev_name_id: edge(random),
             prev_source_id: edge(random),
         };
-        if !go(Write { table: table_of(&tokens), chunk }) {
+        if !go(Write { table: table_of(&with_segments(&tokens, 0)), chunk }) {
             return;
         }
     }
@@ -403,6 +421,7 @@ pub fn small_lists(go: &mut dyn FnMut(Write) -> bool) {
             src_col: 16 * (k / 4 % 2),
             source_id: [0, 1, NONE][k as usize / 8],
             name_id: [0, NONE][k as usize / 4 % 2],
+            segment: 0,
         })
         .collect();
     for count in 0..=2usize {
@@ -412,7 +431,7 @@ pub fn small_lists(go: &mut dyn FnMut(Write) -> bool) {
                 for end in 0..=count as u32 + 1 {
                     for line in 0..3 {
                         let chunk = TokenChunk { start, end, prev_dst_line: line, ..TokenChunk::default() };
-                        if !go(Write { table: table_of(&tokens), chunk }) {
+                        if !go(Write { table: table_of(&with_segments(&tokens, 0)), chunk }) {
                             return;
                         }
                     }
@@ -428,7 +447,7 @@ fn every_step(go: &mut dyn FnMut(Write) -> bool) {
     for step in (0..1100).chain(around) {
         for (from, to) in [(0, step), (step, 0), (u32::MAX - step, u32::MAX - 1)] {
             for source_id in [to, NONE] {
-                let token = Token { dst_line: 0, dst_col: to, src_line: to, src_col: to, source_id, name_id: to };
+                let token = Token::with([0, to, to, to, source_id, to], 0);
                 let chunk = TokenChunk {
                     start: 0,
                     end: 1,
@@ -439,7 +458,7 @@ fn every_step(go: &mut dyn FnMut(Write) -> bool) {
                     prev_name_id: from,
                     prev_source_id: from,
                 };
-                if !go(Write { table: table_of(&[token]), chunk }) {
+                if !go(Write { table: table_of(&with_segments(&[token], 0)), chunk }) {
                     return;
                 }
             }
@@ -459,7 +478,7 @@ fn limit_steps(go: &mut dyn FnMut(Write) -> bool) {
                         let at = |dst_line: u32, number: u32| {
                             let mut numbers = [dst_line, 3, 3, 3, 0, 0];
                             numbers[field] = number;
-                            Token::of(&numbers)
+                            Token::with(numbers, 0)
                         };
                         let mut tokens: Vec<Token> = way(from).map(|number| at(0, number)).collect();
                         let mut middle = at(0, from);
@@ -484,7 +503,7 @@ fn limit_steps(go: &mut dyn FnMut(Write) -> bool) {
                         }
                         tokens.extend([middle, last]);
                         let chunk = TokenChunk { end: tokens.len() as u32, ..TokenChunk::default() };
-                        if !go(Write { table: table_of(&tokens), chunk }) {
+                        if !go(Write { table: table_of(&with_segments(&tokens, 0)), chunk }) {
                             return;
                         }
                     }

@@ -18,11 +18,11 @@ pub struct Tally {
     pub begun: bool,
 }
 
-// 400 sevens: what the numbers of a record are read into, and what is lent to an entry. The `ensures` gives only the length.
-pub fn sevens() -> [u32; 400]
-    ensures { λ r. ⌜ 400 ≡ length r ⌝ }
+// 480 sevens: what the numbers of a record are read into, and what is lent to an entry. The `ensures` gives only the length.
+pub fn sevens() -> [u32; 480]
+    ensures { λ r. ⌜ 480 ≡ length r ⌝ }
 {
-    [7; 400]
+    [7; 480]
 }
 
 // 3,000 sevens, as bytes.

@@ -107,10 +107,10 @@ fn composes_twice(
     let mut just_added = replay::sevens();
     let places = want.len();
     let names = outer_ends.len();
-    if 400 < places {
+    if 480 < places {
         return false;
     }
-    if 400 < names {
+    if 480 < names {
         return false;
     }
     composes(

@@ -15,7 +15,7 @@ fn decodes(numbers: &[u32], text: &[u8], table: &mut [u32], room: usize) -> bool
     if d.offset as u64 != replay::wide(numbers[4]) {
         return false;
     }
-    if d.tokens != (numbers.len() - 5) / 6 {
+    if d.tokens != (numbers.len() - 5) / token::WIDTH {
         return false;
     }
     replay::holds(table, &numbers[5..], 7)
@@ -27,11 +27,11 @@ pub fn decode_agrees(numbers: &[u32], text: &[u8]) -> bool {
         return false;
     }
     let room = numbers.len() - 5;
-    if 400 < room {
+    if 480 < room {
         return false;
     }
     let mut wide = replay::sevens();
-    if !decodes(numbers, text, &mut wide, 400) {
+    if !decodes(numbers, text, &mut wide, 480) {
         return false;
     }
     let mut exact = replay::sevens();

@@ -62,8 +62,7 @@ fn decode_in(mode: Mode, text: &[u8], sources: u32, names: u32, table: &mut [u32
             Step::Put(t, begin, after) => {
                 if begin < LATE {
                     if tokens < room {
-                        let placed = token::with_segment(t, begin as u32);
-                        token::put_token(table, tokens, placed);
+                        token::put_token(table, tokens, t);
                         tokens += 1;
                         s = step::next_after(text, after);
                     } else {

@@ -28,7 +28,7 @@ use Rattle.apply.proofs.Points.{Pointed, Points, points}
 use Rattle.segment.proofs.TooWide.{wide-has}
 use Rattle.step.specs.declared.Step.{Step}
 use Rattle.step.specs.Step.{commaed, lined, offsetOf, stepped, segmentStep, stepFrom, stepAt}
-use Rattle.step.specs.Ways.{segmentedAt, offsetIn, steppedIn, Passed}
+use Rattle.step.specs.Ways.{told, segmentedAt, offsetIn, steppedIn, Passed}
 
 -- ---- where the fault of a whole segment lies: the place that is looked for is the field's own
 module _ (mode : Mode) (text : List ℕ) (begin next : ℕ) (fs : List Field) (e : fieldsFrom mode 0 begin (drop begin text) ≡ whole fs next) where
@@ -74,26 +74,32 @@ module _ (mode : Mode) (sources names : ℕ) (text : List ℕ) (st : State) (g :
   unfolding segmentAt fields
   ended = ap (λ (x : Segment). x .end) e
 
-  pub general-whole : g .end ≡ Ending.Whole → (a : Applied) → a ≡ applied mode sources names st g → (r : Step) → r ≡ steppedIn text (st .at) a
-      → r ≡ segmentedAt mode sources names text st
+  is-fields : (f : Fields) → fields ≡ f → segmentedAt mode sources names text st ≡ segmentStep mode sources names st f
+  unfolding fields
+  is-fields f q = ap (segmentStep mode sources names st) q
+
+  pub general-whole : g .end ≡ Ending.Whole → (a : Applied) → a ≡ applied mode sources names st g → (r : Step) → r ≡ told (steppedIn text (st .at) a)
+      → r ≡ told (segmentedAt mode sources names text st)
   unfolding segmentStep segmentAt fields
   general-whole w a ea r er = by fields refl (sym ended ∙ w)
     where
-      by : (f : Fields) → fields ≡ f → segmentOf f .end ≡ Ending.Whole → r ≡ segmentedAt mode sources names text st
+      by : (f : Fields) → fields ≡ f → segmentOf f .end ≡ Ending.Whole → r ≡ told (segmentedAt mode sources names text st)
       by (whole fs next) q v =
-          er ∙ ap (steppedIn text (st .at)) (ea ∙ ap (applied mode sources names st) (e ∙ ap segmentOf q))
+          er
+          ∙ ap told
+          (ap (steppedIn text (st .at)) (ea ∙ ap (applied mode sources names st) (e ∙ ap segmentOf q))
           ∙ step-is mode text (st .at) next fs q (applied mode sources names st (segmentOf (whole fs next))) (points mode sources names (segmentOf (whole fs next)) (λ l. omega (arith, wide-has fs 0 l)) st)
-          ∙ sym (rw q)
+          ∙ sym (is-fields (whole fs next) q))
       by (leftover place) q v = zero-one cc
       by (overflow place) q v = zero-one cc
 
   pub general-leftover : (place : ℕ) → g .end ≡ Ending.Leftover place → (o : ℕ) → o ≡ offsetIn text (st .at) (About.Place place)
-      → Step.Refuse Code.VlqLeftover o ≡ segmentedAt mode sources names text st
+      → Step.Refuse Code.VlqLeftover o ≡ told (segmentedAt mode sources names text st)
   unfolding segmentStep offsetOf fields
   general-leftover place w o eo = rw (was-leftover fields place (sym ended ∙ w), eo)
 
   pub general-overflow : (place : ℕ) → g .end ≡ Ending.Overflow place → (o : ℕ) → o ≡ offsetIn text (st .at) (About.Place place)
-      → Step.Refuse Code.VlqOverflow o ≡ segmentedAt mode sources names text st
+      → Step.Refuse Code.VlqOverflow o ≡ told (segmentedAt mode sources names text st)
   unfolding segmentStep offsetOf fields
   general-overflow place w o eo = rw (was-overflow fields place (sym ended ∙ w), eo)
 
@@ -124,7 +130,7 @@ pub record Coming (text : List ℕ) (from st : State) : Type 0 where
 pub begins : (text : List ℕ) (from : State) → Coming text from from
 begins text from = record { is = λ mode sources names. refl }
 
-pub over : (mode : Mode) (sources names : ℕ) (text : List ℕ) (st : State) → length text ≤ st .at → Step.Done ≡ stepAt mode sources names text st
+pub over : (mode : Mode) (sources names : ℕ) (text : List ℕ) (st : State) → length text ≤ st .at → Step.Done ≡ told (stepAt mode sources names text st)
 unfolding stepFrom
 over mode sources names text st h = sym (rw (drop-of-length-le text h))
 
@@ -139,11 +145,15 @@ module _ (text : List ℕ) (st : State) (h : st .at < length text) (b : ℕ) (eb
   headed : drop (st .at) text ≡ b ∷ drop (st .at + 1) text
   headed = rw (eb, add-one (st .at)) (drop-cons text (st .at) 0 h)
 
-  pub segment-at : isDelim b ≡ false → (mode : Mode) (sources names : ℕ) (r : Step) → r ≡ segmentedAt mode sources names text st → r ≡ stepAt mode sources names text st
+  pub segment-at : isDelim b ≡ false → (mode : Mode) (sources names : ℕ) (r : Step) → r ≡ told (segmentedAt mode sources names text st)
+      → r ≡ told (stepAt mode sources names text st)
   unfolding stepFrom segmentAt
   segment-at l mode sources names r er =
       let n = neither b l in
-      er ∙ rw headed (sym (rw (n .0, n .1)))
+      er ∙ ap told (sym (stands-at (n .0) (n .1)))
+    where
+      stands-at : eqb b 44 ≡ false → eqb b 59 ≡ false → stepAt mode sources names text st ≡ segmentedAt mode sources names text st
+      stands-at p q = rw (headed, p, q)
 
   crossed-by : (t u : Bool) → eqb b 44 ≡ t → eqb b 59 ≡ u → pick t true u ≡ true → (r : State) → r ≡ pick u (lined st) (commaed st)
       → (mode : Mode) (sources names : ℕ) → stepAt mode sources names text st ≡ stepAt mode sources names text r

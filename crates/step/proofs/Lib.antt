@@ -3,3 +3,4 @@ pub mod Faults
 pub mod Laws
 pub mod Short
 pub mod Sums
+pub mod Told

@@ -3,12 +3,12 @@
 use mathlib.Core.Path.{_≡_}
 use mathlib.Core.Bool.{true, false}
 use mathlib.Core.List.{List}
-use Prim.Native.Nat.{ℕ, _+_, _<_}
+use Prim.Native.Nat.{ℕ, _+_, _%_, _^_, _<_}
 use lib.Dec.{eqb}
 use lib.ListN.{length, drop, getD}
 use Rattle.list.specs.Pick.{pick}
 use Rattle.digits.specs.Digits.{isDelim}
-use Rattle.token.specs.Table.{noId, noSegment, token}
+use Rattle.token.specs.Table.{noId, noSegment, token, withSegment}
 use Rattle.value.specs.declared.Mode.{Mode}
 use Rattle.segment.specs.Segment.{fieldsFrom}
 use Rattle.segment.specs.Fields.{placeFrom}
@@ -19,6 +19,13 @@ use Rattle.apply.specs.declared.Applied.{Applied}
 use Rattle.short.specs.declared.Near.{Near}
 use Rattle.step.specs.Step.{segmentStep, stepAt}
 use Rattle.step.specs.declared.Step.{Step}
+
+-- the step, of which the token says where its segment begins, modulo 2^32; it is said here and not when the token is placed since
+-- decoding takes a tenth less time so
+abbrev pub told : Step → Step
+told (Step.Put t begin s) = Step.Put (withSegment t (begin % 2 ^ 32)) begin s
+told (Step.Refuse code offset) = Step.Refuse code offset
+told Step.Done = Step.Done
 
 -- the segment at the state's place of a whole text
 abbrev pub segmentedAt : Mode → ℕ → ℕ → List ℕ → State → Step

@@ -15,10 +15,11 @@ ghost use Rattle.list.specs.Pick.{pick};
 ghost use Rattle.token.specs.Table.{noId};
 ghost use Rattle.digits.specs.Digits.{isDelim};
 ghost use Rattle.step.specs.Step.{commaed, lined, stepAt};
-ghost use Rattle.step.specs.Ways.{segmentedAt, offsetIn, steppedIn, shortStep, Opens, Closes, Passed};
+ghost use Rattle.step.specs.Ways.{told, segmentedAt, offsetIn, steppedIn, shortStep, Opens, Closes, Passed};
 ghost use Rattle.short.specs.Short.{Fit};
 
-// The next token with its segment's start and the state after it; a refusal with its offset; or the end.
+// The next token with its segment's start and the state after it; a refusal with its offset; or the end. The token says its segment's
+// start as well, modulo 2^32: whoever places it looks first whether that is the start.
 pub enum Step {
     Put(Token, usize, State),
     Refuse(Code, usize),
@@ -37,17 +38,21 @@ fn offset_of(s: &[u8], begin: usize, about: About) -> usize
 }
 
 fn step_of(s: &[u8], begin: usize, a: Applied) -> Step
-    ensures { λ r. ⌜ r ≡ steppedIn (now (s .entry)) begin a ⌝ }
+    ensures { λ r. ⌜ r ≡ told (steppedIn (now (s .entry)) begin a) ⌝ }
 {
     match a {
-        Applied::Took(t, st) => Step::Put(t, begin, st),
+        Applied::Took(t, st) => Step::Put(
+            token::with_segment(t, (begin % 4294967296) as u32),
+            begin,
+            st,
+        ),
         Applied::Refused(code, about) => Step::Refuse(code, offset_of(s, begin, about)),
     }
 }
 
 // A segment in general.
 fn general_step(s: &[u8], mode: Mode, sources: u32, names: u32, st: State) -> Step
-    ensures { λ r. ⌜ r ≡ segmentedAt mode sources names (now (s .entry)) st ⌝ }
+    ensures { λ r. ⌜ r ≡ told (segmentedAt mode sources names (now (s .entry)) st) ⌝ }
 {
     let g = segment::parse_vlq_segment(s, mode, st.at);
     let end = g.end;
@@ -75,7 +80,7 @@ fn shown_name(k: usize, name_id: u32) -> u32
 
 fn short_step(st: State, n: Near, k: usize, sources: u32, names: u32) -> Step
     requires { ⌜ Fit n k sources names × (st .at + k < 2 ^ 64) ⌝ }
-    ensures { λ r. ⌜ r ≡ shortStep st n k ⌝ }
+    ensures { λ r. ⌜ r ≡ told (shortStep st n k) ⌝ }
 {
     let mut r = st;
     r.dst_col = n.dst_col as u32;
@@ -92,7 +97,7 @@ fn short_step(st: State, n: Near, k: usize, sources: u32, names: u32) -> Step
             src_col: r.src_col,
             source_id: r.source_id,
             name_id: shown_name(k, r.name_id),
-            segment: token::NONE,
+            segment: (st.at % 4294967296) as u32,
         },
         st.at,
         r,
@@ -102,7 +107,7 @@ fn short_step(st: State, n: Near, k: usize, sources: u32, names: u32) -> Step
 // One segment: by the short way where its tests hold, else, and for every refusal, in general.
 fn segment_step(s: &[u8], mode: Mode, sources: u32, names: u32, st: State) -> Step
     requires { ⌜ st .at < length (now s) ⌝ }
-    ensures { λ r. ⌜ r ≡ segmentedAt mode sources names (now (s .entry)) st ⌝ }
+    ensures { λ r. ⌜ r ≡ told (segmentedAt mode sources names (now (s .entry)) st) ⌝ }
 {
     let at = st.at;
     if at + 6 <= s.len() {
@@ -174,7 +179,7 @@ pub fn next_after(s: &[u8], st: State) -> State
 // The next token, where no delimiter stands at the state's place.
 pub fn take_segment(s: &[u8], mode: Mode, sources: u32, names: u32, st: State) -> Step
     requires { ⌜ Opens (now s) st ⌝ }
-    ensures { λ r. ⌜ r ≡ stepAt mode sources names (now (s .entry)) st ⌝ }
+    ensures { λ r. ⌜ r ≡ told (stepAt mode sources names (now (s .entry)) st) ⌝ }
 {
     if st.at < s.len() {
         return segment_step(s, mode, sources, names, st);

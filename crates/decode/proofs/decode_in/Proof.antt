@@ -1,12 +1,10 @@
 -- `decode::decode_in` meets its contract. Assumes nothing.
 use borrow.Author.Needs.{needs}
 use native.Mathlib.Omega.{arith}
-use mathlib.Core.Path.{sym, _∙_, ap}
+use mathlib.Core.Path.{sym, _∙_}
 use Prim.Native.Nat.{_-_}
-use Rattle.token.specs.Table.{putToken}
 use Rattle.step.specs.Ways.{Opens}
-use Rattle.step.proofs.Ends.{closes}
-use Rattle.decode.proofs.Turn.{Sofar, begin, moves, long, ended, refused, late, no-place, place, less, put}
+use Rattle.decode.proofs.Turn.{Sofar, begin, moves, long, ended, refused, late, ends-at, no-place, place, less, put}
 use Rattle.decode.proofs.decode_in.Statement.{statement}
 use Rattle.decode.proofs.decode_in.Tie as tie
 
@@ -52,27 +50,21 @@ returns-2 c = refused _ _ _ _ _ _ _ _ (c .before .before .before .before .loop .
 enum-known-next-2 : tie.Need-enum-known-next-2 Inv-loop μ-loop
 enum-known-next-2 c = c .match .keys3
 
-cast-with-segment : tie.Need-cast-with-segment Inv-loop μ-loop
-cast-with-segment c = search needs
-
-with-segment-requires : tie.Need-with-segment-requires Inv-loop μ-loop
-with-segment-requires c κs = search needs
-
 put-token-requires : tie.Need-put-token-requires Inv-loop μ-loop
-put-token-requires c κs = place _ _ _ _ _ _ _ _ (c .before .before .before .before .before .before .before .before .loop .inv .0) _ _ _ (sym (c .before .before .before .before .before .next2 .given .1) ∙ c .before .before .before .before .before .before .before .take-segment .ensures) _ (c .before .before .before .before .before .before .before .before .before .before .before .places-in .ensures) (c .before .before .if2 .taken)
+put-token-requires c κs = place _ _ _ _ _ _ _ _ (c .before .before .before .before .before .before .before .loop .inv .0) _ _ _ (sym (c .before .before .before .before .next2 .given .1) ∙ c .before .before .before .before .before .before .take-segment .ensures) _ (c .before .before .before .before .before .before .before .before .before .before .places-in .ensures) (c .before .if2 .taken)
 
 add-tokens : tie.Need-add-tokens Inv-loop μ-loop
 add-tokens c = search needs
 
 next-after-requires : tie.Need-next-after-requires Inv-loop μ-loop
-next-after-requires c κs = closes _ _ _ _ (c .before .before .before .before .before .before .before .before .before .before .before .loop .s) _ _ _ (sym (c .before .before .before .before .before .before .before .before .next2 .given .1) ∙ c .before .before .before .before .before .before .before .before .before .before .take-segment .ensures)
+next-after-requires c κs = ends-at _ _ _ _ _ _ _ _ (c .before .before .before .before .before .before .before .before .before .before .loop .inv .0) _ _ _ (sym (c .before .before .before .before .before .before .before .next2 .given .1) ∙ c .before .before .before .before .before .before .before .before .before .take-segment .ensures) _ (c .before .before .before .before .before .before .before .before .before .before .before .before .before .places-in .ensures)
 
 loop-less : tie.Need-loop-less Inv-loop μ-loop
-loop-less c = less _ _ _ _ _ _ _ _ (c .before .before .before .before .before .before .before .before .before .before .before .before .loop .inv .0) _ _ _ (sym (c .before .before .before .before .before .before .before .before .before .next2 .given .1) ∙ c .before .before .before .before .before .before .before .before .before .before .before .take-segment .ensures) _ (c .before .before .before .before .before .before .before .before .before .before .before .before .before .before .before .places-in .ensures) (c .before .before .before .before .before .before .if2 .taken)
+loop-less c = less _ _ _ _ _ _ _ _ (c .before .before .before .before .before .before .before .before .before .before .before .loop .inv .0) _ _ _ (sym (c .before .before .before .before .before .before .before .before .next2 .given .1) ∙ c .before .before .before .before .before .before .before .before .before .before .take-segment .ensures) _ (c .before .before .before .before .before .before .before .before .before .before .before .before .before .before .places-in .ensures) (c .before .before .before .before .before .if2 .taken)
 
 loop-again : tie.Need-loop-again Inv-loop μ-loop
 loop-again c = (
-  moves _ _ _ _ _ _ _ _ _ (put _ _ _ _ _ _ _ _ (c .before .before .before .before .before .before .before .before .before .before .before .before .loop .inv .0) _ _ _ (sym (c .before .before .before .before .before .before .before .before .before .next2 .given .1) ∙ c .before .before .before .before .before .before .before .before .before .before .before .take-segment .ensures) _ (c .before .before .before .before .before .before .before .before .before .before .before .before .before .before .before .places-in .ensures) (c .before .before .before .before .before .before .before .if1 .taken) (c .before .before .before .before .before .before .if2 .taken) _ (c .before .before .before .put-token .ensures ∙ ap (putToken _ _) (c .before .before .before .before .before .with-segment .ensures))) (c .next-after .ensures),
+  moves _ _ _ _ _ _ _ _ _ (put _ _ _ _ _ _ _ _ (c .before .before .before .before .before .before .before .before .before .before .before .loop .inv .0) _ _ _ (sym (c .before .before .before .before .before .before .before .before .next2 .given .1) ∙ c .before .before .before .before .before .before .before .before .before .before .take-segment .ensures) _ (c .before .before .before .before .before .before .before .before .before .before .before .before .before .before .places-in .ensures) (c .before .before .before .before .before .before .if1 .taken) (c .before .before .before .before .before .if2 .taken) _ (c .before .before .before .put-token .ensures)) (c .next-after .ensures),
   c .next-after .ensures .opens,
 )
 
@@ -82,8 +74,8 @@ same-length-3 c = long _ _ _ _ _ _ _ _ (c .before .before .before .before .befor
 returns-3 : tie.Need-returns-3 Inv-loop μ-loop
 returns-3 c = no-place _ _ _ _ _ _ _ _ (c .before .before .before .before .before .before .loop .inv .0) _ _ _ (sym (c .before .before .before .next2 .given .1) ∙ c .before .before .before .before .before .take-segment .ensures) _ (c .before .before .before .before .before .before .before .before .before .places-in .ensures) (c .before .if1 .taken) (c .if2 .left)
 
-cast-t27 : tie.Need-cast-t27 Inv-loop μ-loop
-cast-t27 c = record { fits = omega (arith, c .before .before .before .before .before .loop .inv .0 .few) }
+cast-t25 : tie.Need-cast-t25 Inv-loop μ-loop
+cast-t25 c = record { fits = omega (arith, c .before .before .before .before .before .loop .inv .0 .few) }
 
 same-length-4 : tie.Need-same-length-4 Inv-loop μ-loop
 same-length-4 c = long _ _ _ _ _ _ _ _ (c .before .before .before .before .before .loop .inv .0)
@@ -109,8 +101,6 @@ decode-in-spec =
     same-length-2
     returns-2
     enum-known-next-2
-    cast-with-segment
-    with-segment-requires
     put-token-requires
     add-tokens
     next-after-requires
@@ -118,6 +108,6 @@ decode-in-spec =
     loop-again
     same-length-3
     returns-3
-    cast-t27
+    cast-t25
     same-length-4
     returns-4)

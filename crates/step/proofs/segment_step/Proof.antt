@@ -1,7 +1,8 @@
 -- `step::segment_step` meets its contract. Assumes nothing.
 use Rattle.short.proofs.Laws.{shaped-few}
-use mathlib.Core.Path.{_∙_}
+use mathlib.Core.Path.{_∙_, ap}
 use native.Mathlib.Omega.{arith}
+use Rattle.step.specs.Ways.{told}
 use Rattle.step.proofs.Short.{agrees}
 use borrow.Author.Needs.{needs}
 use Rattle.step.proofs.segment_step.Statement.{statement}
@@ -25,8 +26,9 @@ short-step-requires c κs = (c .before .fits2 .ensures (c .if3 .taken), omega (a
 returns : tie.Need-returns
 returns c =
     c .short-step .ensures
-    ∙ agrees (c .before .before .before .before .before .before .before .before .args .mode) (c .before .before .before .before .before .before .before .before .args .s .now) (c .before .before .before .before .before .before .before .before .args .sources) (c .before .before .before .before .before .before .before .before .args .names) (c .before .before .before .before .before .before .before .before .args .st) _ (c .before .before .before .before .before .before .if1 .taken) (c .before .before .before .near-all .ensures) _
-    (c .before .before .before .before .before .try-fast-4-or-5-segment .ensures (c .before .before .before .before .if2 .taken) .0) (c .before .before .fits2 .ensures (c .before .if3 .taken)) (c .before .before .before .before .before .before .before .before .fits .sources .fits)
+    ∙ ap told
+    (agrees (c .before .before .before .before .before .before .before .before .args .mode) (c .before .before .before .before .before .before .before .before .args .s .now) (c .before .before .before .before .before .before .before .before .args .sources) (c .before .before .before .before .before .before .before .before .args .names) (c .before .before .before .before .before .before .before .before .args .st) _ (c .before .before .before .before .before .before .if1 .taken) (c .before .before .before .near-all .ensures) _
+    (c .before .before .before .before .before .try-fast-4-or-5-segment .ensures (c .before .before .before .before .if2 .taken) .0) (c .before .before .fits2 .ensures (c .before .if3 .taken)) (c .before .before .before .before .before .before .before .before .fits .sources .fits))
 
 general-step-requires : tie.Need-general-step-requires
 general-step-requires c κs = search needs

@@ -1,5 +1,5 @@
 -- A run, by what its step is; and where a step that gives a token lies. Assumes nothing.
-use mathlib.Core.Path.{_≡_, refl, sym, ap, subst}
+use mathlib.Core.Path.{_≡_, refl, sym, _∙_, ap, subst}
 use mathlib.Core.Bool.{Bool, true, false}
 use mathlib.Core.List.{List}
 use Prim.Native.Nat.{ℕ, zero, suc, _+_, _≤_, _<_}
@@ -7,6 +7,7 @@ use native.Mathlib.Omega.{arith}
 use lib.Dec.{ltb}
 use lib.ListN.{length, drop}
 use borrow.Author.Tests.{lt-ltb, le-ltb, ltb-true, ltb-false}
+use Rattle.list.specs.Pick.{pick}
 use Rattle.code.specs.declared.Code.{Code}
 use Rattle.token.specs.Table.{noSegment, withSegment}
 use Rattle.token.specs.declared.Token.{Token}
@@ -34,19 +35,39 @@ module _ (mode : Mode) (sources names : ℕ) (text : List ℕ) where
   run-refused index zero s code offset e = rw e
   run-refused index (suc left) s code offset e = rw e
 
+  -- with no place left, and with one more: what a token goes on with
+  abbrev none : Token → State → Out
+  none t s = stopped Code.TableFull (t .segment)
+
+  abbrev next : ℕ → ℕ → Token → State → Out
+  next index left t s = tokenThen t (runs (index + 1) left s)
+
   module _ (index : ℕ) (s : State) (t : Token) (begin : ℕ) (s′ : State) (e : steps s ≡ Step.Put t begin s′) where
+    -- the token goes on if it begins early, and it is refused if not
+    put-early : (go : Token → State → Out) → begin < noSegment → stepThen index (length text) (steps s) go ≡ go (withSegment t begin) s′
+    unfolding stepThen
+    put-early go l =
+        ap (λ (r : Step). stepThen index (length text) r go) e
+        ∙ ap (λ (x : Bool). pick x (go (withSegment t begin) s′) (stopped (Code.TooBig index) begin)) (lt-ltb begin noSegment l)
+
+    put-late : (go : Token → State → Out) → noSegment ≤ begin → stepThen index (length text) (steps s) go ≡ stopped (Code.TooBig index) begin
+    unfolding stepThen
+    put-late go l =
+        ap (λ (r : Step). stepThen index (length text) r go) e
+        ∙ ap (λ (x : Bool). pick x (go (withSegment t begin) s′) (stopped (Code.TooBig index) begin)) (le-ltb begin noSegment l)
+
     pub run-late : (left : ℕ) → noSegment ≤ begin → runs index left s ≡ stopped (Code.TooBig index) begin
-    unfolding run stepThen
-    run-late zero l = rw (e, le-ltb begin noSegment l)
-    run-late (suc left) l = rw (e, le-ltb begin noSegment l)
+    unfolding run
+    run-late zero l = put-late none l
+    run-late (suc left) l = put-late (next index left) l
 
     pub run-full : begin < noSegment → runs index 0 s ≡ stopped Code.TableFull begin
-    unfolding run stepThen
-    run-full l = rw (e, lt-ltb begin noSegment l)
+    unfolding run
+    run-full l = put-early none l
 
     pub run-put : (left : ℕ) → begin < noSegment → runs index (suc left) s ≡ tokenThen (withSegment t begin) (runs (index + 1) left s′)
-    unfolding run stepThen
-    run-put left l = rw (e, lt-ltb begin noSegment l)
+    unfolding run
+    run-put left l = put-early (next index left) l
 
     -- its segment begins there or later, and ends later
     pub put-past : (s .at ≤ begin) × (s .at < s′ .at)
@@ -57,8 +78,8 @@ module _ (mode : Mode) (sources names : ℕ) (text : List ℕ) where
   -- only the step tells states apart
   pub run-same : (index left : ℕ) (s s′ : State) → steps s ≡ steps s′ → runs index left s ≡ runs index left s′
   unfolding run
-  run-same index zero s s′ e = ap (λ (r : Step). stepThen index (length text) r λ t q. stopped Code.TableFull (t .segment)) e
-  run-same index (suc left) s s′ e = ap (λ (r : Step). stepThen index (length text) r λ t q. tokenThen t (run mode sources names text (index + 1) left q)) e
+  run-same index zero s s′ e = ap (λ (r : Step). stepThen index (length text) r none) e
+  run-same index (suc left) s s′ e = ap (λ (r : Step). stepThen index (length text) r (next index left)) e
 
   -- what each way of a step hands on holds of every run
   module _ (P : ℕ → ℕ → State → Out → Type 0)

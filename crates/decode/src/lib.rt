@@ -73,8 +73,9 @@ fn decode_in(mode: Mode, text: &[u8], sources: u32, names: u32, table: &mut [u32
                         };
                     }
                 } else {
+                    let index = tokens as u32;
                     return Decoded {
-                        code: Code::TooBig(tokens as u32),
+                        code: Code::TooBig(index),
                         tokens,
                         offset: begin,
                     };

@@ -74,8 +74,8 @@ same-length-3 c = long _ _ _ _ _ _ _ _ (c .before .before .before .before .befor
 returns-3 : tie.Need-returns-3 Inv-loop μ-loop
 returns-3 c = no-place _ _ _ _ _ _ _ _ (c .before .before .before .before .before .before .loop .inv .0) _ _ _ (sym (c .before .before .before .next2 .given .1) ∙ c .before .before .before .before .before .take-segment .ensures) _ (c .before .before .before .before .before .before .before .before .before .places-in .ensures) (c .before .if1 .taken) (c .if2 .left)
 
-cast-t25 : tie.Need-cast-t25 Inv-loop μ-loop
-cast-t25 c = record { fits = omega (arith, c .before .before .before .before .before .loop .inv .0 .few) }
+cast-index : tie.Need-cast-index Inv-loop μ-loop
+cast-index c = record { fits = omega (arith, c .before .before .before .before .before .loop .inv .0 .few) }
 
 same-length-4 : tie.Need-same-length-4 Inv-loop μ-loop
 same-length-4 c = long _ _ _ _ _ _ _ _ (c .before .before .before .before .before .loop .inv .0)
@@ -108,6 +108,6 @@ decode-in-spec =
     loop-again
     same-length-3
     returns-3
-    cast-t25
+    cast-index
     same-length-4
     returns-4)

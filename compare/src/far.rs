@@ -1,14 +1,16 @@
 //! Texts of 4 GiB, where a 32-bit count comes round or ends: only when asked for. Such a text is a few MiB of memory mapped again and
-//! again, so that it costs next to none. To decode it the crate asks for six times its length, so the rules' own numbers judge, and
-//! the model is held to them too; the crate's release build writes its text, which takes 9 GiB.
+//! again, so that it costs next to none. The rules' own numbers judge, and the model is held to them; and the crate's release build,
+//! where it takes the text. To decode it the crate asks for six times its length: that is not reserved, and little of it is touched.
+//! To write one takes 9 GiB.
 
+use std::alloc::{GlobalAlloc, Layout, System};
 use std::fs::File;
 use std::io::Write;
 use std::os::fd::{AsRawFd, FromRawFd};
 use std::time::Instant;
 
 use crate::cases::{Tally, met_code};
-use crate::model::{self, Answer, NONE, Token, TokenChunk, WIDTH, answer, table_of};
+use crate::model::{self, Answer, NONE, Token, TokenChunk, WIDTH, answer, sixes, table_of};
 use crate::ours::{self, Entry, Lent, LentBytes, writer};
 use crate::theirs::RELEASE;
 
@@ -31,6 +33,43 @@ unsafe extern "C" {
 const ACCESS: i32 = 3;
 const PRIVATE_FIXED: i32 = 0x12;
 const NOT_RESERVED: i32 = 0x4022;
+
+/// The program's memory. So much at once is not reserved: only the crate asks for it.
+pub struct Memory;
+
+const MUCH: usize = 1 << 34;
+
+unsafe impl GlobalAlloc for Memory {
+    unsafe fn alloc(&self, layout: Layout) -> *mut u8 {
+        if layout.size() < MUCH {
+            return unsafe { System.alloc(layout) };
+        }
+        let at = unsafe { mmap(std::ptr::null_mut(), layout.size(), ACCESS, NOT_RESERVED, -1, 0) };
+        if at as isize == -1 { std::ptr::null_mut() } else { at }
+    }
+
+    unsafe fn dealloc(&self, at: *mut u8, layout: Layout) {
+        if layout.size() < MUCH {
+            unsafe { System.dealloc(at, layout) }
+        } else {
+            unsafe { munmap(at, layout.size()) };
+        }
+    }
+
+    unsafe fn realloc(&self, at: *mut u8, layout: Layout, size: usize) -> *mut u8 {
+        if layout.size().max(size) < MUCH {
+            return unsafe { System.realloc(at, layout, size) };
+        }
+        unsafe {
+            let to = self.alloc(Layout::from_size_align_unchecked(size, layout.align()));
+            if !to.is_null() {
+                std::ptr::copy_nonoverlapping(at, to, layout.size().min(size));
+                self.dealloc(at, layout);
+            }
+            to
+        }
+    }
+}
 
 /// The bytes that are there once.
 const STRETCH: usize = 1 << 26;
@@ -105,6 +144,12 @@ fn decodes(entry: Entry, text: &[u8], counts: (u32, u32), places: usize, due: Du
     Ok(())
 }
 
+/// The crate's release build takes the text, and has these tokens.
+fn crate_takes(text: &[u8], tokens: &[Token]) -> Result<(), String> {
+    let text = std::str::from_utf8(text).map_err(|e| e.to_string())?;
+    same("the crate", (RELEASE.decode)(text, 0, 0), Some(Ok(sixes(tokens))))
+}
+
 /// The last line that a token can lie on, and the next: its segment begins too late. So 2^32 semicolons bring no token back to line 0.
 fn lines() -> Result<(), String> {
     let last = Far::new(b"", b';', LATE - 1, b"A;A;A")?;
@@ -113,7 +158,8 @@ fn lines() -> Result<(), String> {
         decodes(entry, last.text(), (0, 0), 3, (answer(model::TOO_BIG, 1), &tokens, LATE + 1), false)?;
         decodes(entry, &last.text()[..LATE], (0, 0), 1, (answer(model::DONE, 0), &tokens, LATE), true)?;
     }
-    Ok(())
+    // The crate goes on to the last line, and to line 0.
+    crate_takes(last.text(), &[NONE - 1, NONE, 0].map(|line| token(line, 0)))
 }
 
 /// A segment of 2^32 + 4 fields: the count with the refusal comes round, and no token is made.
@@ -135,6 +181,7 @@ fn first() -> Result<(), String> {
             decodes(entry, text.text(), (0, 0), places, (big, &[], LATE), places == 0)?;
         }
     }
+    crate_takes(text.text(), &[token(0, 0)])?;
     let text = Far::new(b"", b',', LATE - 1, b"A")?;
     for entry in Entry::ALL {
         let full = answer(model::TABLE_FULL, 0);
@@ -167,7 +214,7 @@ fn behind() -> Result<(), String> {
         }
         decodes(entry, text.text(), (0, 0), 3, (answer(model::TABLE_FULL, 0), &tokens[..3], LATE - 1), false)?;
     }
-    Ok(())
+    crate_takes(text.text(), &[&tokens[..], &[token(1, 0)]].concat())
 }
 
 /// A bad segment gives its own code there, wherever its fault lies.

@@ -20,6 +20,9 @@ use std::path::PathBuf;
 
 use cases::Tally;
 
+#[global_allocator]
+static MEMORY: far::Memory = far::Memory;
+
 struct Args {
     seed: u64,
     scale: usize,

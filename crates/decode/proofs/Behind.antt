@@ -73,12 +73,13 @@ module _ (mode : Mode) (sources names : ℕ) (text : List ℕ) where
 
     within : s′ .at ≤ length text
     within =
-        omega
-        (arith,
-        clear-long (s′ .at - begin) (drop begin text) (clear-here mode sources names text s p begin (s′ .at) lies),
-        length-drop begin text,
-        segment mode sources names text s p begin (s′ .at) lies .within,
-        lies .from)
+        omega (
+          arith,
+          clear-long (s′ .at - begin) (drop begin text) (clear-here mode sources names text s p begin (s′ .at) lies),
+          length-drop begin text,
+          segment mode sources names text s p begin (s′ .at) lies .within,
+          lies .from,
+        )
 
     ends-at : s′ .at ≡ begin + length (piece (drop begin text))
     ends-at =

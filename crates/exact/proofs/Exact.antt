@@ -1,12 +1,12 @@
 -- Where the decode that names no mode takes a text, no value and no sum lost a bit. Assumes nothing.
 use mathlib.Core.Path.{_≡_, refl, _∙_, ap, subst}
 use mathlib.Core.List.{List, _∷_}
-use Prim.Native.Nat.{ℕ, zero, suc, _+_, _-_}
+use Prim.Native.Nat.{ℕ, _+_, _-_, _<_}
 use native.Mathlib.Omega.{arith}
 use lib.ListN.{length, drop}
 use lib.Seq.{drop-drop}
 use Rattle.code.specs.declared.Code.{Code}
-use Rattle.token.specs.Table.{withSegment, places}
+use Rattle.token.specs.Table.{noSegment, withSegment, places}
 use Rattle.token.specs.declared.Token.{Token}
 use Rattle.apply.specs.declared.State.{State}
 use Rattle.step.specs.declared.Step.{Step}
@@ -26,12 +26,12 @@ module _ (sources names : ℕ) (bytes : List ℕ) where
   Read s o = o .code ≡ Code.Done → Both s (drop (s .at) bytes) (o .tokens)
 
   -- what stands behind a token stands at its state's place
-  there : (s s′ : State) (t : Token) (begin : ℕ) (o : Out) → Goes sources names s (drop (s .at) bytes) (Step.Put t begin s′) → Read s′ o
+  there : (s s′ : State) (t : Token) (begin : ℕ) (o : Out) → begin < noSegment → Goes sources names s (drop (s .at) bytes) (Step.Put t begin s′) → Read s′ o
       → o .code ≡ Code.Done → Both s (drop (s .at) bytes) (withSegment t begin ∷ o .tokens)
-  there s s′ t begin o g h e =
+  there s s′ t begin o l g h e =
       let n : s .at + (s′ .at - s .at) ≡ s′ .at = omega (arith, g .0) in
       let d : drop (s′ .at - s .at) (drop (s .at) bytes) ≡ drop (s′ .at) bytes = drop-drop (s′ .at - s .at) (s .at) bytes ∙ ap (λ (k : ℕ). drop k bytes) n in
-      g .1 .1 (o .tokens) (rw d (h e .1 (rw d at (g .1 .0))))
+      g .1 .1 (o .tokens) (omega arith) (rw d (h e .1 (rw d at (g .1 .0))))
 
   -- its step goes where the parts of the text go
   goes-at : (s : State) (r : Step) → stepAt mode sources names bytes s ≡ r → Goes sources names s (drop (s .at) bytes) r
@@ -44,11 +44,11 @@ module _ (sources names : ℕ) (bytes : List ℕ) where
       (λ index left s code offset e. λ q. absurd (goes-at s (Step.Refuse code offset) e q))
       (λ index left s t begin s′ e l. λ q. other cc)
       (λ index s t begin s′ e l. λ q. other cc)
-      (λ index left s t begin s′ o e l h. there s s′ t begin o (goes-at s (Step.Put t begin s′) e) h)
+      (λ index left s t begin s′ o e l h. there s s′ t begin o l (goes-at s (Step.Put t begin s′) e) h)
 
 -- all numbers start at 0
 at-start : Tracks start text.begun
-at-start = record { line = refl; column = refl; srcLine = refl; srcColumn = refl; source = refl; name = refl }
+at-start = record { line = refl; few = omega arith; column = refl; srcLine = refl; srcColumn = refl; source = refl; name = refl }
 
 taken : (sources names : ℕ) (bytes table : List ℕ) (r : Decoded) (table′ : List ℕ) → Decodes mode sources names bytes table r table′
     → r .code ≡ Code.Done → Exact bytes table (r .tokens) table′

@@ -2,7 +2,7 @@
 use mathlib.Core.Path.{_≡_, refl, sym, _∙_, ap, subst}
 use mathlib.Core.Bool.{Bool, true, false}
 use mathlib.Core.List.{List, [], _∷_, _++_}
-use Prim.Native.Nat.{ℕ, suc, _+_, _-_, _%_, _^_, _≤_}
+use Prim.Native.Nat.{ℕ, suc, _+_, _-_, _%_, _^_, _<_, _≤_}
 use native.Mathlib.Omega.{arith}
 use lib.Dec.{T, eqb}
 use lib.ListN.{drop}
@@ -56,10 +56,10 @@ after s semicolon = lined s
 
 tracks-after : (s : State) (w : Numbers) (d : Delimiter) → Tracks s w → Tracks (after s d) (delimited w d)
 unfolding delimited
-tracks-after s w comma h = record { line = h .line; column = h .column; srcLine = h .srcLine; srcColumn = h .srcColumn; source = h .source; name = h .name }
+tracks-after s w comma h = record { line = h .line; few = omega (arith, h .few); column = h .column; srcLine = h .srcLine; srcColumn = h .srcColumn; source = h .source; name = h .name }
 tracks-after s w semicolon h =
     let e : (s .«dst_line» + 1) % 2 ^ 32 ≡ (w .line + 1) % 2 ^ 32 = omega (arith, h .line) in
-    record { line = e; column = refl; srcLine = h .srcLine; srcColumn = h .srcColumn; source = h .source; name = h .name }
+    record { line = e; few = omega (arith, h .few); column = refl; srcLine = h .srcLine; srcColumn = h .srcColumn; source = h .source; name = h .name }
 
 pub is-delimiter : (d : Delimiter) → isDelim (character d) ≡ true
 unfolding isDelim
@@ -83,14 +83,14 @@ module _ (sources names : ℕ) where
   -- ---- a step: what stands behind the token that it gives is known
   abbrev pub Goes : State → List ℕ → Step → Type 0
   Goes s bs (Step.Put t begin s′) =
-      (s .at ≤ s′ .at) × (Border (drop (s′ .at - s .at) bs) × ((ts : List Token) → Behind s′ (drop (s′ .at - s .at) bs) ts → Both s bs (withSegment t begin ∷ ts)))
+      (s .at ≤ s′ .at) × (Border (drop (s′ .at - s .at) bs) × ((ts : List Token) → begin < 2 ^ 32 → Behind s′ (drop (s′ .at - s .at) bs) ts → Both s bs (withSegment t begin ∷ ts)))
   Goes s bs (Step.Refuse code offset) = Refusal code
   Goes s bs Step.Done = Both s bs []
 
   later : (s : State) (d : Delimiter) (b : ℕ) (bs : List ℕ) (r : Step) → after s d .at ≡ s .at + 1 → b ≡ character d → Goes (after s d) bs r → Goes s (b ∷ bs) r
   later s d b bs (Step.Put t begin s′) a e h =
       let n : s′ .at - s .at ≡ suc (s′ .at - after s d .at) = omega (arith, h .0, a) in
-      (omega (arith, h .0, a), (rw n (h .1 .0), λ ts p. past-one s d b bs (withSegment t begin ∷ ts) e (h .1 .1 ts (rw n at p) .0)))
+      (omega (arith, h .0, a), (rw n (h .1 .0), λ ts u p. past-one s d b bs (withSegment t begin ∷ ts) e (h .1 .1 ts u (rw n at p) .0)))
   later s d b bs (Step.Refuse code offset) a e h = h
   later s d b bs Step.Done a e h = past-one s d b bs [] e (h .0)
 
@@ -101,7 +101,7 @@ module _ (sources names : ℕ) where
   segment-goes s b bs d (overflow place) e p = λ q. other cc
   segment-goes s b bs d (segment.whole fs next) e p =
       by (applied mode sources names s (segmentOf (segment.whole fs next))) (lands mode sources names (segmentOf (segment.whole fs next)) s)
-      (subst (λ (x : List Field). Takes (p .known) s (applied mode sources names s (segmentOf (segment.whole x next)))) (sym (p .fields)) (takes sources names s next (p .known)))
+      (subst (λ (x : List Field). Takes (p .known) s (applied mode sources names s (segmentOf (segment.whole x next)))) (sym (p .fields)) (takes sources names s next (border .0) (p .known)))
     where
       border : Ends (s .at) (b ∷ bs) (segment.whole fs next)
       border = subst (Ends (s .at) (b ∷ bs)) e (ends mode 0 (s .at) (b ∷ bs))
@@ -112,12 +112,12 @@ module _ (sources names : ℕ) where
         rw l (border .0),
         (
           rw l (border .1),
-          λ ts h. (
+          λ ts u h. (
             record {
               first = k .segment;
               parts = h .parts;
               spelled = p .spelled ∙ ap (λ (x : List ℕ). x ++ asRead (drop (next - s .at) (b ∷ bs))) (k .spelled) ∙ ap (λ (x : List ℕ). spellSegment (k .segment) ++ x) (rw l at (h .spelled));
-              sums = λ w q. rw (k .shown w q, h .sums (added w (k .segment)) (k .tracks w q));
+              sums = λ w q. rw (k .shown w q u, h .sums (added w (k .segment)) (k .tracks w q));
             },
             λ z. yes-no (sym z ∙ d),
           ),

@@ -3,7 +3,8 @@
 use mathlib.Core.Path.{_≡_, refl, sym, _∙_, ap}
 use mathlib.Core.Bool.{Bool, true, false}
 use mathlib.Core.List.{List, [], _∷_, _++_, append-nil}
-use Prim.Native.Nat.{ℕ, _+_, _%_, _^_, _<_}
+use Prim.Native.Nat.{ℕ, _+_, _%_, _^_, _<_, _≤_}
+use native.Mathlib.Nat.{mod-eq-of-lt}
 use native.Mathlib.Omega.{arith}
 use lib.Dec.{eqb, ltb}
 use lib.IntN.{ℤ, pos, negsuc, _+ℤ_}
@@ -117,31 +118,35 @@ narrow i f fs l n = by (isWide (f .value)) refl (rw (lt-ltb i 5 l) at n)
     by true e q = absurd (q l)
     by false e q = (e, q)
 
--- ---- the state's numbers are these sums
+-- ---- the state's numbers are these sums, and there are no more lines than bytes before its place
 pub record Tracks (s : State) (w : Numbers) : Type 0 where
   pub line : s .«dst_line» ≡ w .line % 2 ^ 32
+  pub few : w .line ≤ s .at
   pub column : pos (s .«dst_col») ≡ w .column
   pub srcLine : pos (s .«src_line») ≡ w .srcLine
   pub srcColumn : pos (s .«src_col») ≡ w .srcColumn
   pub source : pos (s .«source_id») ≡ w .source
   pub name : pos (s .«name_id») ≡ w .name
 
-shows : (s : State) (w : Numbers) → Tracks s w → (source name : ℕ) (i j : ℤ) → pos source ≡ i → pos name ≡ j → shown w i j ≡ exact.whole (apply.shown s source name)
-shows s w h source name i j p q = rw (h .line, h .column, h .srcLine, h .srcColumn, p, q)
+shows : (s : State) (w : Numbers) → Tracks s w → w .line < 2 ^ 32 → (source name : ℕ) (i j : ℤ) → pos source ≡ i → pos name ≡ j
+    → shown w i j ≡ exact.whole (apply.shown s source name)
+shows s w h l source name i j p q =
+    let e : s .«dst_line» ≡ w .line = h .line ∙ mod-eq-of-lt l in
+    rw (e, h .column, h .srcLine, h .srcColumn, p, q)
 
 -- a segment of these runs, taken
 pub record Taken (ks : List Known) (s : State) (t : Token) (s′ : State) : Type 0 where
   pub segment : Segment
   pub spelled : spellAll ks ≡ spellSegment segment
   pub tracks : (w : Numbers) → Tracks s w → Tracks s′ (added w segment)
-  pub shown : (w : Numbers) → Tracks s w → tokenOf (added w segment) segment ≡ exact.whole t ∷ []
+  pub shown : (w : Numbers) → Tracks s w → s .at < 2 ^ 32 → tokenOf (added w segment) segment ≡ exact.whole t ∷ []
 
 abbrev pub Takes : List Known → State → Applied → Type 0
 Takes ks s (Applied.Took t s′) = Taken ks s t s′
 Takes ks s (Applied.Refused code about) = Refusal code
 
 -- ---- by the number of fields
-module _ (sources names : ℕ) (s : State) (next : ℕ) where
+module _ (sources names : ℕ) (s : State) (next : ℕ) (forth : s .at ≤ next) where
   no : (ks : List Known) (code : Code) (about : About) → Refusal code → Takes ks s (Applied.Refused code about)
   no ks code about h = h
 
@@ -162,13 +167,13 @@ module _ (sources names : ℕ) (s : State) (next : ℕ) where
         columned-by (Takes ks s) (no ks) s (segment ks) _ λ n e.
         let tracks : (w : Numbers) → Tracks s w → Tracks (withColumn s n next) (added w (one a)) =
         λ w h.
-        record { line = h .line; column = rw (← h .column) e; srcLine = h .srcLine; srcColumn = h .srcColumn; source = h .source; name = h .name }
+        record { line = h .line; few = omega (arith, h .few, forth); column = rw (← h .column) e; srcLine = h .srcLine; srcColumn = h .srcColumn; source = h .source; name = h .name }
         in
         record {
           segment = one a;
           spelled = append-nil (spell (k₀ .run));
           tracks = tracks;
-          shown = λ w h. ap (λ (x : Numbers). x ∷ []) (shows (withColumn s n next) (added w (one a)) (tracks w h) noId noId _ _ refl refl);
+          shown = λ w h u. ap (λ (x : Numbers). x ∷ []) (shows (withColumn s n next) (added w (one a)) (tracks w h) (omega (arith, h .few, u)) noId noId _ _ refl refl);
         }
       where
         ks : List Known
@@ -193,6 +198,7 @@ module _ (sources names : ℕ) (s : State) (next : ℕ) where
           λ w h.
           record {
             line = h .line;
+            few = omega (arith, h .few, forth);
             column = rw (← h .column) e;
             srcLine = rw (← h .srcLine) el;
             srcColumn = rw (← h .srcColumn) em;
@@ -204,7 +210,10 @@ module _ (sources names : ℕ) (s : State) (next : ℕ) where
             segment = four a b c d;
             spelled = ap (λ (x : List ℕ). spell (k₀ .run) ++ (spell (k₁ .run) ++ (spell (k₂ .run) ++ x))) (append-nil (spell (k₃ .run)));
             tracks = tracks;
-            shown = λ w h. ap (λ (x : Numbers). x ∷ []) (shows (withSource (withColumn s n next) i l m) (added w (four a b c d)) (tracks w h) i noId _ _ (tracks w h .source) refl);
+            shown =
+                λ w h u.
+                ap (λ (x : Numbers). x ∷ [])
+                (shows (withSource (withColumn s n next) i l m) (added w (four a b c d)) (tracks w h) (omega (arith, h .few, u)) i noId _ _ (tracks w h .source) refl);
           }
         where
           ks : List Known
@@ -220,6 +229,7 @@ module _ (sources names : ℕ) (s : State) (next : ℕ) where
           λ w h.
           record {
             line = h .line;
+            few = omega (arith, h .few, forth);
             column = rw (← h .column) e;
             srcLine = rw (← h .srcLine) el;
             srcColumn = rw (← h .srcColumn) em;
@@ -232,9 +242,9 @@ module _ (sources names : ℕ) (s : State) (next : ℕ) where
             spelled = ap (λ (x : List ℕ). spell (k₀ .run) ++ (spell (k₁ .run) ++ (spell (k₂ .run) ++ (spell (k₃ .run) ++ x)))) (append-nil (spell (k₄ .run)));
             tracks = tracks;
             shown =
-                λ w h.
+                λ w h u.
                 ap (λ (x : Numbers). x ∷ [])
-                (shows (withName (withSource (withColumn s n next) i l m) j) (added w (five a b c d (value-of k₄ n₄))) (tracks w h) i j _ _ (tracks w h .source) (tracks w h .name));
+                (shows (withName (withSource (withColumn s n next) i l m) j) (added w (five a b c d (value-of k₄ n₄))) (tracks w h) (omega (arith, h .few, u)) i j _ _ (tracks w h .source) (tracks w h .name));
           }
         where
           ks : List Known

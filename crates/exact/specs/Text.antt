@@ -1,9 +1,9 @@
--- ECMA-426: the parts of a text, and the running sums of their values as whole numbers. No mode, no remainder and no refusal stands here,
--- but that the semicolons are counted modulo 2^32. Assumes nothing.
+-- ECMA-426: the parts of a text, and the running sums of their values as whole numbers. No mode, no remainder and no refusal stands here.
+-- Assumes nothing.
 use mathlib.Core.Path.{_≡_}
 use mathlib.Core.Bool.{true}
 use mathlib.Core.List.{List, [], _∷_, _++_}
-use Prim.Native.Nat.{ℕ, _+_, _%_, _^_}
+use Prim.Native.Nat.{ℕ, _+_}
 use lib.IntN.{ℤ, pos, _+ℤ_}
 use Rattle.value.specs.Standard.{Run, isRun, unsigned, signed}
 use Rattle.value.specs.declared.Judged.the-variants.{Is}
@@ -91,9 +91,9 @@ unfoldable pub delimited : Numbers → Delimiter → Numbers
 delimited s comma = s
 delimited s semicolon = numbers (s .line + 1) (pos 0) (s .srcLine) (s .srcColumn) (s .source) (s .name)
 
--- the token that shows the sums with these ids; the line alone modulo 2^32
+-- the token that shows the sums with these ids
 abbrev pub shown : Numbers → ℤ → ℤ → Numbers
-shown s source name = numbers (s .line % 2 ^ 32) (s .column) (s .srcLine) (s .srcColumn) source name
+shown s source name = numbers (s .line) (s .column) (s .srcLine) (s .srcColumn) source name
 
 -- the token of a segment whose values are added: nothing gives none; without a source, or without a name, the id is none
 unfoldable pub tokenOf : Numbers → Segment → List Numbers

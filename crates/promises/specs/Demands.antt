@@ -45,7 +45,7 @@ use Rattle.peghayrick.specs.declared.EncodedOut.{EncodedOut}
 use Rattle.peghayrick.specs.declared.ComposedOut.{ComposedOut}
 use Rattle.peghayrick.specs.declared.NameOut.{NameOut}
 use Rattle.peghayrick.specs.Exports.{Goes, flag, decodedOut, encodedOut, foundOut, composedOut, nameOut}
-use Rattle.round.specs.Demand3.{ChunksJoin, WriteAndRead, CutAndRead, SurelyReadsBack, SurelyInBoth, OneText}
+use Rattle.round.specs.Demand3.{ChunksJoin, WriteAndRead, CutAndRead, SurelyReadsBack, SurelyInBoth, ShortIsEarly, OneText}
 use Rattle.round.proofs.Demand3 as round
 
 -- ---- demand 1: each exported entry has one answer, and leaves one content of what is lent
@@ -122,9 +122,9 @@ never-full = size.never
 pub by-the-standard : ByTheStandard
 by-the-standard = runs.by-the-standard
 
--- where the decode that names no mode takes a text, no value and no sum lost a bit: each number of each token is the running sum of the
--- values as whole numbers, by the standard's rule, and a remainder is taken of the count of `;` alone. The same holds of the tokens
--- that are kept before a refused segment
+-- where the decode that names no mode takes a text, no value and no sum lost a bit: each of the first six numbers of each token is the
+-- running sum of the values as whole numbers, by the standard's rule, or the count of `;`, with no remainder taken. The same holds of the
+-- tokens that are kept before a refused segment
 pub nothing-lost : NothingLost
 nothing-lost = exact.nothing-lost
 
@@ -154,6 +154,10 @@ surely-reads-back = round.surely-reads-back
 -- and where `meets_checked_premises` does, it reads back in both modes
 pub surely-in-both : SurelyInBoth
 surely-in-both = round.surely-in-both
+
+-- a text of at most 4,294,967,295 bytes is early enough
+pub short-is-early : ShortIsEarly
+short-is-early = round.short-is-early
 
 -- two tables that differ in the first six numbers of a token never make the same text, each cut as it likes, wherever its segments begin
 pub one-text : OneText

@@ -21,7 +21,7 @@ use Rattle.encode.specs.declared.Encoded.{Encoded}
 use Rattle.premises.specs.Premises.{SoundTable}
 use Rattle.checked_premises.specs.Checked.{takesAll}
 use Rattle.round.specs.Terms.{whole, Call, Cut, joined, AllDone, Early, Holds, Gives, Refused, Refuses, ReadsBack}
-use Rattle.round.specs.Demand3.{ChunksJoin, WriteAndRead, CutAndRead, SurelyReadsBack, SurelyInBoth, OneText}
+use Rattle.round.specs.Demand3.{ChunksJoin, WriteAndRead, CutAndRead, SurelyReadsBack, SurelyInBoth, ShortIsEarly, OneText}
 use Rattle.round.proofs.Chunks.{handed, joins-whole, rest-whole, whole-bytes, whole-call}
 use Rattle.round.proofs.Stops.{Outcome}
 use Rattle.round.proofs.Run.{placed, same-placed, length-placed}
@@ -120,6 +120,9 @@ surely-reads-back sources names xs r ks d e u = cut-and-read sources names xs ks
 pub surely-in-both : SurelyInBoth
 surely-in-both sources names xs r ks d e u =
     let a = cut-and-read sources names xs ks (d .sound e) u in (a .0, λ early. let b = a .1 early in (b .lenient, b .checked (d .taken e)))
+
+pub short-is-early : ShortIsEarly
+short-is-early text l begin b = omega (arith, b .within)
 
 pub one-text : OneText
 one-text sources names sources′ names′ a b ks ls s t u v e =

@@ -7,7 +7,7 @@ use mathlib.Core.Option.{none}
 use Prim.Native.Nat.{ℕ, _≤_}
 use lib.ListN.{length, take}
 use Rattle.code.specs.declared.Code.{Code}
-use Rattle.token.specs.Table.{badTable, tokensOf}
+use Rattle.token.specs.Table.{noSegment, badTable, tokensOf}
 use Rattle.chunk.specs.Chunk.{fresh, firstBack}
 use Rattle.encode.specs.declared.Encoded.{Encoded}
 use Rattle.encode.specs.Encode.{bytesIn, Encodes}
@@ -52,6 +52,10 @@ abbrev pub SurelyInBoth : Type 0
 SurelyInBoth =
     (sources names : ℕ) (xs : List ℕ) (r : Bool) (ks : List Call) → DecidesChecked xs sources names r → r ≡ true → Cut xs (fresh 0 0) ks
     → AllDone ks × (Early (joined ks) → Gives Mode.Lenient sources names xs (joined ks) × Gives Mode.Checked sources names xs (joined ks))
+
+-- every text of at most 4,294,967,295 bytes is such a text
+abbrev pub ShortIsEarly : Type 0
+ShortIsEarly = (text : List ℕ) → length text ≤ noSegment → Early text
 
 -- no two tables make one text, wherever its segments begin, each cut as it likes, though each meets the premises with counts of its own
 abbrev pub OneText : Type 0

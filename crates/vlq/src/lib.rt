@@ -42,9 +42,9 @@ fn put_digit(cur: u64, k: u64, d: u64) -> u64
 }
 
 // A number of few digits: its bits and how many they are, 0 where that is not known.
-struct Few {
-    bits: u64,
-    count: usize,
+pub struct Few {
+    pub bits: u64,
+    pub count: usize,
 }
 
 // Four bytes at once: `w` is made of four bytes below 128, and what these functions give has a number in the place of each. No sum or
@@ -132,7 +132,7 @@ fn few_of(w: u32) -> Few
     }
 }
 
-fn few_digits(s: &[u8], at: usize) -> Few
+pub fn few_digits(s: &[u8], at: usize) -> Few
     requires { ⌜ at + 4 ≤ length (now s) ⌝ }
     ensures { λ r. ⌜ (r .count ≤ 4) × FewAt (now (s .entry)) at (r .bits) (r .count) ⌝ }
 {

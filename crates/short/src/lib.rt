@@ -129,9 +129,10 @@ fn few_after(s: &[u8], at: usize, steps: u32) -> Shape
         if f.bits != 1 {
             let p = at + 3 + f.count;
             if digits::is_delim(s[p]) {
+                let len = 3 + f.count;
                 return Shape {
                     fields: 4,
-                    len: 3 + f.count,
+                    len,
                     steps,
                     col: move_of(f.bits),
                     name: 16,
@@ -141,9 +142,10 @@ fn few_after(s: &[u8], at: usize, steps: u32) -> Shape
             if 0 < g.count {
                 if g.bits != 1 {
                     if digits::is_delim(s[p + g.count]) {
+                        let len = 3 + f.count + g.count;
                         return Shape {
                             fields: 5,
-                            len: 3 + f.count + g.count,
+                            len,
                             steps,
                             col: move_of(f.bits),
                             name: move_of(g.bits),
@@ -181,12 +183,14 @@ pub fn try_fast_4_or_5_segment(s: &[u8], at: usize) -> Shape
         if s[at + 1] == 65 {
             let steps = steps_of(with_second(digits::four_of(s, at), fifth(b)));
             if 0 < steps {
+                let col = (steps / 16777216) as u64;
+                let name = (steps / 256 % 256) as u64;
                 return Shape {
                     fields,
                     len: fields,
                     steps,
-                    col: (steps / 16777216) as u64,
-                    name: (steps / 256 % 256) as u64,
+                    col,
+                    name,
                 };
             }
         }

@@ -99,11 +99,11 @@ fn bits_of(x: u32) -> u64
     (x % 256 + x / 256 % 256 * 32 + x / 65536 % 256 * 1024 + x / 16777216 * 32768) as u64
 }
 
-// How many bytes are 255, where the others are 0.
-fn count_of(m: u32) -> usize
-    ensures { λ r. ⌜ r ≡ countOf m ⌝ }
+// How many bytes there are up to the first in which a bit is set.
+fn count_of(f: u32) -> usize
+    ensures { λ r. ⌜ r ≡ countOf f ⌝ }
 {
-    ((m & 0x0101_0101) as usize * 16843009) / 16777216 % 256
+    (u32::trailing_zeros(f) / 8 + 1) as usize
 }
 
 // A number that ends within four bytes. How many digits it has is as good as random, so that it is data and no branch. The tests are
@@ -128,7 +128,7 @@ fn few_of(w: u32) -> Few
     }
     Few {
         bits: bits_of(fives_of(w, l, u) & m),
-        count: count_of(m),
+        count: count_of(f),
     }
 }
 

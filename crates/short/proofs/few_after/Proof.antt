@@ -23,8 +23,8 @@ shared-slice-read-is-delim c = search needs
 is-delim-requires : tie.Need-is-delim-requires
 is-delim-requires c κs = search needs
 
-add-t14 : tie.Need-add-t14
-add-t14 c = search needs
+add-len : tie.Need-add-len
+add-len c = search needs
 
 move-of-requires : tie.Need-move-of-requires
 move-of-requires c κs = search needs
@@ -44,11 +44,11 @@ shared-slice-read-is-delim-2 c = search needs
 is-delim-requires-2 : tie.Need-is-delim-requires-2
 is-delim-requires-2 c κs = search needs
 
-add-t22 : tie.Need-add-t22
-add-t22 c = search needs
+add-len-2 : tie.Need-add-len-2
+add-len-2 c = search needs
 
-add-t23 : tie.Need-add-t23
-add-t23 c = search needs
+add-len-3 : tie.Need-add-len-3
+add-len-3 c = search needs
 
 move-of-requires-2 : tie.Need-move-of-requires-2
 move-of-requires-2 c κs = search needs
@@ -76,15 +76,15 @@ few-after-spec =
     add-p-2
     shared-slice-read-is-delim
     is-delim-requires
-    add-t14
+    add-len
     move-of-requires
     returns
     few-digits-requires-2
     add-is-delim
     shared-slice-read-is-delim-2
     is-delim-requires-2
-    add-t22
-    add-t23
+    add-len-2
+    add-len-3
     move-of-requires-2
     move-of-requires-3
     returns-2

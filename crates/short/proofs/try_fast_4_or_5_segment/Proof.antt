@@ -45,11 +45,11 @@ with-second-requires c κs = second-fits (now (c .before .before .before .before
 steps-of-requires : tie.Need-steps-of-requires
 steps-of-requires c κs = search needs
 
-cast-t20 : tie.Need-cast-t20
-cast-t20 c = search needs
+cast-col : tie.Need-cast-col
+cast-col c = search needs
 
-cast-t23 : tie.Need-cast-t23
-cast-t23 c = search needs
+cast-name : tie.Need-cast-name
+cast-name c = search needs
 
 returns : tie.Need-returns
 returns c =
@@ -84,8 +84,8 @@ try-fast-4-or-5-segment-spec =
     fifth-requires
     with-second-requires
     steps-of-requires
-    cast-t20
-    cast-t23
+    cast-col
+    cast-name
     returns
     unshaped-requires
     returns-2

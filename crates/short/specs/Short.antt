@@ -1,15 +1,20 @@
 -- Helpers: what inner contracts and proofs need; no contract of an entry and no theorem reaches this file.
--- What the short way tests and makes: a segment of four or five values of one digit each. It decides nothing by itself: that it
+-- What the short way tests and makes: a segment of four or five values of few digits each. It decides nothing by itself: that it
 -- agrees with the general way wherever it is taken is proved. Assumes nothing.
 use mathlib.Core.Path.{_≡_}
-use mathlib.Core.Logic.{_⊎_}
+use mathlib.Core.Bool.{true}
 use mathlib.Core.List.{List}
-use Prim.Native.Nat.{ℕ, _+_, _/_, _%_, _^_, _<_}
-use lib.ListN.{getD}
-use Rattle.digits.specs.Digits.{digitOf}
+use Prim.Native.Nat.{ℕ, _+_, _-_, _/_, _%_, _^_, _<_}
+use lib.Dec.{eqb}
+use lib.ListN.{length, getD}
+use Rattle.list.specs.Pick.{pick}
+use Rattle.digits.specs.Digits.{digitOf, isDelim}
 use Rattle.digits.specs.Tables.{shortOf, stepOf, word}
+use Rattle.vlq.specs.Vlq.{vlqAt}
+use Rattle.vlq.specs.declared.Vlq.the-variants.{Value}
 use Rattle.apply.specs.declared.State.{State}
 use Rattle.short.specs.declared.Near.{Near}
+use Rattle.short.specs.declared.Shape.{Shape}
 
 -- a number below 2^32 as four bytes, each below a bound
 pub record Bytes (bound w : ℕ) : Type 0 where
@@ -48,31 +53,50 @@ Stepping d r = (x : Bytes 32 d) → r ≡ word (stepOf (x .a)) (stepOf (x .b)) (
 abbrev pub Reading : ℕ → ℕ → Type 0
 Reading w r = (x : Bytes 256 w) → 0 < r → Read (x .a) (x .b) (x .c) (x .d) r
 
--- k fields of one digit each stand from `at` on, and then a delimiter
-pub record Shaped (s : List ℕ) (at k : ℕ) : Type 0 where
-  pub few : (k ≡ 4) ⊎ (k ≡ 5)
-  pub digit : (i : ℕ) → i < k → shortOf (getD s (at + i) 0) < 32
-  pub delim : shortOf (getD s (at + k) 0) ≡ 80
+-- 16 more than the value of a number, modulo 2^64
+unfoldable pub moveOf : ℕ → ℕ
+moveOf n = pick (eqb (n % 2) 1) ((2 ^ 64 + 16 - n / 2) % 2 ^ 64) (16 + n / 2)
 
--- the steps of the bytes from `at` on, as a shape holds them; a delimiter steps by 0
-pub record Steps (s : List ℕ) (at steps : ℕ) : Type 0 where
-  pub first : steps % 256 ≡ shortOf (getD s at 0) % 32
-  pub second : 16 ≡ shortOf (getD s (at + 1) 0) % 32
-  pub third : steps / 65536 % 256 ≡ shortOf (getD s (at + 2) 0) % 32
-  pub fourth : steps / 16777216 ≡ shortOf (getD s (at + 3) 0) % 32
-  pub fifth : steps / 256 % 256 ≡ shortOf (getD s (at + 4) 0) % 32
+-- a number below 2^32 that is not minus zero stands from p up to q; e is 16 more than its value
+pub record Stands (s : List ℕ) (p q e : ℕ) : Type 0 where
+  pub num : ℕ
+  pub reads : vlqAt s p ≡ Value num 0 q
+  pub small : num < 2 ^ 32
+  pub plain : num ≡ 1 → ⊥
+  pub moves : e ≡ moveOf num
 
--- x is the number `base` after the step e, where it lies below 2^32
-abbrev pub Stepped : ℕ → ℕ → ℕ → Type 0
-Stepped x base e = x < 2 ^ 32 → x + 16 ≡ base + e % 32
+-- three values of one digit each stand from `at` on, and the second is 0
+pub record Three (s : List ℕ) (at steps : ℕ) : Type 0 where
+  pub first : Stands s at (at + 1) (steps % 256)
+  pub second : Stands s (at + 1) (at + 2) 16
+  pub third : Stands s (at + 2) (at + 3) (steps / 65536 % 256)
 
--- the running numbers after the five bytes from the state's place on
-pub record Nears (s : List ℕ) (st : State) (n : Near) : Type 0 where
-  pub col : Stepped (n .«dst_col») (st .«dst_col») (shortOf (getD s (st .at) 0))
-  pub source : Stepped (n .«source_id») (st .«source_id») (shortOf (getD s (st .at + 1) 0))
-  pub line : Stepped (n .«src_line») (st .«src_line») (shortOf (getD s (st .at + 2) 0))
-  pub scol : Stepped (n .«src_col») (st .«src_col») (shortOf (getD s (st .at + 3) 0))
-  pub name : Stepped (n .«name_id») (st .«name_id») (shortOf (getD s (st .at + 4) 0))
+-- four fields end at the place p, or a fifth begins there
+pub data Rest (s : List ℕ) (at p : ℕ) (r : Shape) : Type 0 where
+  four : r .fields ≡ 4 → p ≡ at + r .len → r .name ≡ 16 → Rest s at p r
+  five : r .fields ≡ 5 → Stands s p (at + r .len) (r .name) → Rest s at p r
+
+-- the fields of a shape stand from `at` on, and then a delimiter
+pub record Shaped (s : List ℕ) (at : ℕ) (r : Shape) : Type 0 where
+  pub three : Three s at (r .steps)
+  pub place : ℕ
+  pub fourth : Stands s (at + 3) place (r .col)
+  pub rest : Rest s at place r
+  pub within : at + r .len < length s
+  pub delim : isDelim (getD s (at + r .len) 0) ≡ true
+
+-- x is the number `base` after the step e, modulo 2^64
+pub record Stepped (x base e : ℕ) : Type 0 where
+  pub small : base < 2 ^ 32
+  pub moved : (x + 16) % 2 ^ 64 ≡ (base + e) % 2 ^ 64
+
+-- the running numbers after the steps of a shape
+pub record Nears (r : Shape) (st : State) (n : Near) : Type 0 where
+  pub col : Stepped (n .«dst_col») (st .«dst_col») (r .steps % 256)
+  pub source : Stepped (n .«source_id») (st .«source_id») 16
+  pub line : Stepped (n .«src_line») (st .«src_line») (r .steps / 65536 % 256)
+  pub scol : Stepped (n .«src_col») (st .«src_col») (r .col)
+  pub name : Stepped (n .«name_id») (st .«name_id») (r .name)
 
 -- every sum may be taken, in both modes
 pub record Fit (n : Near) (k sources names : ℕ) : Type 0 where

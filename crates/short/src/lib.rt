@@ -1,5 +1,6 @@
-// The short way: a segment of four or five values of one digit each, of which the second is 0 and none is minus zero, as most
-// are. Its tests are sufficient and no more: whatever fails one of them, and every refusal, is left to the general way.
+// The short way: a segment of four or five values, of which the first three have one digit each and the others up to four, the
+// second is 0 and none is minus zero, as most are. Its tests are sufficient and no more: whatever fails one of them, and every
+// refusal, is left to the general way.
 use apply::State;
 ghost use mathlib.Core.Path.{_≡_};
 ghost use mathlib.Core.Bool.{true};
@@ -7,16 +8,20 @@ ghost use Prim.Native.Nat.{_+_, _-_, _*_, _<_, _≤_, _^_};
 ghost use lib.Dec.{eqb, ltb};
 ghost use lib.ListN.{length};
 ghost use Rattle.list.specs.Pick.{pick};
-ghost use Rattle.short.specs.Short.{Bytes, Ones, Stepping, Reading, Shaped, Steps, Stepped, Nears, Fit};
+ghost use Rattle.short.specs.Short.{Bytes, Ones, Stepping, Reading, moveOf, Three, Shaped, Stepped, Nears, Fit};
 
-// How many fields there are, 0 where they are perhaps not of this shape. The steps are 16 more than a value each: a byte for
-// the first field, the fifth, the third and the fourth; 16 for the fifth where there are four.
+// How many fields there are, 0 where they are perhaps not of this shape, and how many bytes they take. A step is 16 more than a
+// value: in `steps` a byte for the first field and, as its third byte, one for the third; `col` for the fourth and `name` for the
+// fifth, both modulo 2^64; 16 for the fifth where there are four.
 pub struct Shape {
     pub fields: usize,
+    pub len: usize,
     pub steps: u32,
+    pub col: u64,
+    pub name: u64,
 }
 
-// The five running numbers after values of one digit; 2^32 or more where a sum leaves 0 to 4,294,967,295.
+// The five running numbers after these values; 2^32 or more where a sum leaves 0 to 4,294,967,295.
 pub struct Near {
     pub dst_col: u64,
     pub source_id: u64,
@@ -92,10 +97,85 @@ fn with_second(w: u32, x: u32) -> u32
     w - 16640 + x * 256
 }
 
-// The delimiter is looked for first: where it stands, nearly every segment is of this shape.
+fn unshaped() -> Shape
+    ensures { λ r. ⌜ r .fields ≡ 0 ⌝ }
+{
+    Shape {
+        fields: 0,
+        len: 0,
+        steps: 0,
+        col: 0,
+        name: 0,
+    }
+}
+
+// The step of a number of several digits: half of it added to 16 or, where it is odd, taken from it.
+fn move_of(bits: u64) -> u64
+    ensures { λ r. ⌜ r ≡ moveOf bits ⌝ }
+{
+    if bits % 2 == 1 {
+        return std::num::wrapping_sub_u64(16, bits / 2);
+    }
+    16 + bits / 2
+}
+
+// A fourth value of up to four digits, then a delimiter, or a fifth such value and then a delimiter.
+fn few_after(s: &[u8], at: usize, steps: u32) -> Shape
+    requires { ⌜ (at + 12 ≤ length (now s)) × Three (now s) at steps ⌝ }
+    ensures { λ r. ⌜ (0 < r .fields → Shaped (now (s .entry)) at r) ⌝ }
+{
+    let f = vlq::few_digits(s, at + 3);
+    if 0 < f.count {
+        if f.bits != 1 {
+            let p = at + 3 + f.count;
+            if digits::is_delim(s[p]) {
+                let len = 3 + f.count;
+                return Shape {
+                    fields: 4,
+                    len,
+                    steps,
+                    col: move_of(f.bits),
+                    name: 16,
+                };
+            }
+            let g = vlq::few_digits(s, p);
+            if 0 < g.count {
+                if g.bits != 1 {
+                    if digits::is_delim(s[p + g.count]) {
+                        let len = 3 + f.count + g.count;
+                        return Shape {
+                            fields: 5,
+                            len,
+                            steps,
+                            col: move_of(f.bits),
+                            name: move_of(g.bits),
+                        };
+                    }
+                }
+            }
+        }
+    }
+    unshaped()
+}
+
+// The first three values have one digit each, and the others up to four. `A` stands in for the fourth byte.
+fn try_few(s: &[u8], at: usize) -> Shape
+    requires { ⌜ at + 12 ≤ length (now s) ⌝ }
+    ensures { λ r. ⌜ (0 < r .fields → Shaped (now (s .entry)) at r) ⌝ }
+{
+    if s[at + 1] == 65 {
+        let steps = steps_of(digits::four_of(s, at) % 16777216 + 1090519040);
+        if 0 < steps {
+            return few_after(s, at, steps);
+        }
+    }
+    unshaped()
+}
+
+// The delimiter is looked for first: where it stands after values of one digit each, nearly every segment is of that shape.
 pub fn try_fast_4_or_5_segment(s: &[u8], at: usize) -> Shape
-    requires { ⌜ at + 6 ≤ length (now s) ⌝ }
-    ensures { λ r. ⌜ (0 < r .fields → Shaped (now (s .entry)) at (r .fields) × Steps (now (s .entry)) at (r .steps)) ⌝ }
+    requires { ⌜ at + 12 ≤ length (now s) ⌝ }
+    ensures { λ r. ⌜ (0 < r .fields → Shaped (now (s .entry)) at r) ⌝ }
 {
     let b = s[at + 4];
     let fields = five_or_four(b);
@@ -103,33 +183,41 @@ pub fn try_fast_4_or_5_segment(s: &[u8], at: usize) -> Shape
         if s[at + 1] == 65 {
             let steps = steps_of(with_second(digits::four_of(s, at), fifth(b)));
             if 0 < steps {
-                return Shape { fields, steps };
+                let col = (steps / 16777216) as u64;
+                let name = (steps / 256 % 256) as u64;
+                return Shape {
+                    fields,
+                    len: fields,
+                    steps,
+                    col,
+                    name,
+                };
             }
         }
+        return unshaped();
     }
-    Shape {
-        fields: 0,
-        steps: 0,
-    }
+    try_few(s, at)
 }
 
-// A running number after a step of one digit: `e` is 16 more than the step.
-fn moved_by(base: u32, e: u32) -> u64
-    ensures { λ r. ⌜ (r < 2 ^ 32 → r + 16 ≡ base + e) ⌝ }
+// A running number after a step: `e` is 16 more than the step, modulo 2^64.
+fn moved_by(base: u32, e: u64) -> u64
+    ensures { λ r. ⌜ Stepped r base e ⌝ }
 {
-    std::num::wrapping_add_u64(base as u64 + e as u64, 18446744073709551600)
+    std::num::wrapping_add_u64(
+        std::num::wrapping_add_u64(base as u64, e),
+        18446744073709551600,
+    )
 }
 
-pub fn near_all(s: &[u8], steps: u32, st: State) -> Near
-    requires { ⌜ Steps (now s) (st .at) steps ⌝ }
-    ensures { λ r. ⌜ Nears (now (s .entry)) st r ⌝ }
+pub fn near_all(shape: Shape, st: State) -> Near
+    ensures { λ r. ⌜ Nears shape st r ⌝ }
 {
     Near {
-        dst_col: moved_by(st.dst_col, steps % 256),
+        dst_col: moved_by(st.dst_col, (shape.steps % 256) as u64),
         source_id: st.source_id as u64,
-        src_line: moved_by(st.src_line, steps / 65536 % 256),
-        src_col: moved_by(st.src_col, steps / 16777216),
-        name_id: moved_by(st.name_id, steps / 256 % 256),
+        src_line: moved_by(st.src_line, (shape.steps / 65536 % 256) as u64),
+        src_col: moved_by(st.src_col, shape.col),
+        name_id: moved_by(st.name_id, shape.name),
     }
 }
 

@@ -42,10 +42,10 @@ steppedIn text begin (Applied.Took t s) = Step.Put t begin s
 steppedIn text begin (Applied.Refused code about) = Step.Refuse code (offsetIn text begin about)
 
 -- the step that the short way makes; that it is the segment's own is proved
-abbrev pub shortStep : State → Near → ℕ → Step
-shortStep st n k =
+abbrev pub shortStep : State → Near → ℕ → ℕ → Step
+shortStep st n k len =
     Step.Put (token (st .«dst_line») (n .«dst_col») (n .«src_line») (n .«src_col») (n .«source_id») (pick (eqb k 5) (n .«name_id») noId) noSegment) (st .at)
-    (state (st .«dst_line») (n .«dst_col») (n .«src_line») (n .«src_col») (n .«source_id») (n .«name_id») (st .at + k))
+    (state (st .«dst_line») (n .«dst_col») (n .«src_line») (n .«src_col») (n .«source_id») (n .«name_id») (st .at + len))
 
 -- no delimiter stands at the state's place
 abbrev pub Opens : List ℕ → State → Type 0

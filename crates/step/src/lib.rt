@@ -78,9 +78,9 @@ fn shown_name(k: usize, name_id: u32) -> u32
     token::NONE
 }
 
-fn short_step(st: State, n: Near, k: usize, sources: u32, names: u32) -> Step
-    requires { ⌜ Fit n k sources names × (st .at + k < 2 ^ 64) ⌝ }
-    ensures { λ r. ⌜ r ≡ told (shortStep st n k) ⌝ }
+fn short_step(st: State, n: Near, k: usize, sources: u32, names: u32, len: usize) -> Step
+    requires { ⌜ Fit n k sources names × (st .at + len < 2 ^ 64) ⌝ }
+    ensures { λ r. ⌜ r ≡ told (shortStep st n k len) ⌝ }
 {
     let mut r = st;
     r.dst_col = n.dst_col as u32;
@@ -88,7 +88,7 @@ fn short_step(st: State, n: Near, k: usize, sources: u32, names: u32) -> Step
     r.src_line = n.src_line as u32;
     r.src_col = n.src_col as u32;
     r.name_id = n.name_id as u32;
-    r.at = st.at + k;
+    r.at = st.at + len;
     Step::Put(
         Token {
             dst_line: r.dst_line,
@@ -110,13 +110,13 @@ fn segment_step(s: &[u8], mode: Mode, sources: u32, names: u32, st: State) -> St
     ensures { λ r. ⌜ r ≡ told (segmentedAt mode sources names (now (s .entry)) st) ⌝ }
 {
     let at = st.at;
-    if at + 6 <= s.len() {
+    if at + 12 <= s.len() {
         let shape = short::try_fast_4_or_5_segment(s, at);
         let k = shape.fields;
         if 0 < k {
-            let n = short::near_all(s, shape.steps, st);
+            let n = short::near_all(shape, st);
             if short::fits(n, k, sources, names) {
-                return short_step(st, n, k, sources, names);
+                return short_step(st, n, k, sources, names, shape.len);
             }
         }
     }

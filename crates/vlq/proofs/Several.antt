@@ -3,9 +3,11 @@ use mathlib.Core.Path.{_≡_, refl, sym, _∙_, ap}
 use mathlib.Core.Bool.{Bool, true, false}
 use mathlib.Core.List.{List}
 use mathlib.Core.Logic.{_⊎_, inl, inr}
-use Prim.Native.Nat.{ℕ, _+_, _-_, _*_, _/_, _%_, _^_, _<_, _≤_}
+use Prim.Native.Nat.{ℕ, zero, suc, _+_, _-_, _*_, _/_, _%_, _^_, _<_, _≤_}
+use native.Mathlib.Nat.{pow-suc, mul-assoc}
 use native.Mathlib.Omega.{arith}
 use lib.Bits.{bitAnd, bitXor, and-mask, xor-block, xor-self}
+use lib.Count.{trailingZeros}
 use lib.Dec.{T, ltb, eqb, eqb→eq}
 use lib.ListN.{length, getD}
 use borrow.Author.Tests.{ltb-true, ltb-false, eqb-true, eq-eqb}
@@ -130,25 +132,47 @@ module _ (n : ℕ) (p : n < 128) where
         by true u v = absurd (omega arith)
         by false u v = ltb-false (digitOf n) 32 u
 
--- ---- m is all bits up to the first byte that ends a value
-data Mask (a b c d m : ℕ) : Type 0 where
-  in-one : endOf a ≡ 128 → m ≡ 255 → Mask a b c d m
-  in-two : endOf a ≡ 0 → endOf b ≡ 128 → m ≡ 65535 → Mask a b c d m
-  in-three : endOf a ≡ 0 → endOf b ≡ 0 → endOf c ≡ 128 → m ≡ 16777215 → Mask a b c d m
-  in-four : endOf a ≡ 0 → endOf b ≡ 0 → endOf c ≡ 0 → endOf d ≡ 128 → m ≡ 4294967295 → Mask a b c d m
+-- ---- m is all bits up to the first byte that ends a value, and k counts the bytes
+data Mask (a b c d m k : ℕ) : Type 0 where
+  in-one : endOf a ≡ 128 → m ≡ 255 → k ≡ 1 → Mask a b c d m k
+  in-two : endOf a ≡ 0 → endOf b ≡ 128 → m ≡ 65535 → k ≡ 2 → Mask a b c d m k
+  in-three : endOf a ≡ 0 → endOf b ≡ 0 → endOf c ≡ 128 → m ≡ 16777215 → k ≡ 3 → Mask a b c d m k
+  in-four : endOf a ≡ 0 → endOf b ≡ 0 → endOf c ≡ 0 → endOf d ≡ 128 → m ≡ 4294967295 → k ≡ 4 → Mask a b c d m k
 
 ones : (k y r f : ℕ) → 0 < r → r < 2 ^ k → f ≡ y * 2 ^ k + r → bitXor f (f - 1) ≡ bitXor r (r - 1)
 ones k y r f z h e =
     let q : f - 1 ≡ y * 2 ^ k + (r - 1) = omega arith in
     rw (q, e) (xor-block k y y r (r - 1) h (omega arith) ∙ ap (λ (x : ℕ). x * 2 ^ k + bitXor r (r - 1)) (xor-self y) ∙ omega arith)
 
+-- an odd number with i zeros after it
+zeros-after : (d i m n : ℕ) → m % 2 ≡ 1 → i < d → n ≡ m * 2 ^ i → trailingZeros d n ≡ i
+unfolding trailingZeros
+zeros-after zero i m n o h e = absurd (omega arith)
+zeros-after (suc d) zero m n o h e =
+    let q : n % 2 ≡ 1 = omega arith in
+    rw q
+zeros-after (suc d) (suc i) m n o h e =
+    let p : m * 2 ^ suc i ≡ m * 2 ^ i * 2 = ap (λ (x : ℕ). m * x) (pow-suc 2 i) ∙ sym (mul-assoc m (2 ^ i) 2) in
+    let q : n % 2 ≡ 0 = omega arith in
+    rw q (ap suc (zeros-after d i m (n / 2) o (omega arith) (omega arith)))
+
+counts : (j y f : ℕ) → 8 * j + 7 < 32 → f ≡ (2 * y + 1) * 2 ^ (8 * j + 7) → countOf f ≡ j + 1
+unfolding countOf
+counts j y f h e = omega (arith, zeros-after 32 (8 * j + 7) (2 * y + 1) f (omega arith) h e)
+
 module _ (a b c d f m : ℕ) (ef : f ≡ word (endOf a) (endOf b) (endOf c) (endOf d)) (nf : f ≡ 0 → ⊥) (em : m ≡ bitXor f (f - 1)) where
   mask-by : (endOf a ≡ 0) ⊎ (endOf a ≡ 128) → (endOf b ≡ 0) ⊎ (endOf b ≡ 128) → (endOf c ≡ 0) ⊎ (endOf c ≡ 128) → (endOf d ≡ 0) ⊎ (endOf d ≡ 128)
-      → Mask a b c d m
-  mask-by (inr p) x y z = in-one p (em ∙ ones 8 ((endOf d * 256 + endOf c) * 256 + endOf b) 128 f (omega arith) (omega arith) (omega arith))
-  mask-by (inl p) (inr q) y z = in-two p q (em ∙ ones 16 (endOf d * 256 + endOf c) 32768 f (omega arith) (omega arith) (omega arith))
-  mask-by (inl p) (inl q) (inr r) z = in-three p q r (em ∙ ones 24 (endOf d) 8388608 f (omega arith) (omega arith) (omega arith))
-  mask-by (inl p) (inl q) (inl r) (inr t) = in-four p q r t (em ∙ ones 32 0 2147483648 f (omega arith) (omega arith) (omega arith))
+      → Mask a b c d m (countOf f)
+  mask-by (inr p) x y z =
+      in-one p (em ∙ ones 8 ((endOf d * 256 + endOf c) * 256 + endOf b) 128 f (omega arith) (omega arith) (omega arith))
+      (counts 0 ((endOf d * 256 + endOf c) * 256 + endOf b) f (omega arith) (omega arith))
+  mask-by (inl p) (inr q) y z =
+      in-two p q (em ∙ ones 16 (endOf d * 256 + endOf c) 32768 f (omega arith) (omega arith) (omega arith))
+      (counts 1 (endOf d * 256 + endOf c) f (omega arith) (omega arith))
+  mask-by (inl p) (inl q) (inr r) z =
+      in-three p q r (em ∙ ones 24 (endOf d) 8388608 f (omega arith) (omega arith) (omega arith)) (counts 2 (endOf d) f (omega arith) (omega arith))
+  mask-by (inl p) (inl q) (inl r) (inr t) =
+      in-four p q r t (em ∙ ones 32 0 2147483648 f (omega arith) (omega arith) (omega arith)) (counts 3 0 f (omega arith) (omega arith))
   mask-by (inl p) (inl q) (inl r) (inl t) = absurd (nf (omega arith))
 
 -- what the mask leaves of four bytes
@@ -168,46 +192,44 @@ module _ (v p q r t m : ℕ) (ev : v ≡ word p q r t) (hp : p < 256) (hq : q < 
 bits-word : (p q r t : ℕ) → p < 256 → q < 256 → r < 256 → bitsOf (word p q r t) ≡ p + q * 32 + r * 1024 + t * 32768
 bits-word p q r t hp hq hr = rw (first p q r t hp, second p q r t hp hq, third p q r t hp hq hr, fourth p q r t hp hq hr)
 
-counted : (a b c d m : ℕ) → Mask a b c d m → countOf m ≤ 4
-unfolding countOf
-counted a b c d m (in-one p e) = rw e (omega arith)
-counted a b c d m (in-two p q e) = rw e (omega arith)
-counted a b c d m (in-three p q r e) = rw e (omega arith)
-counted a b c d m (in-four p q r t e) = rw e (omega arith)
+counted : (a b c d m k : ℕ) → Mask a b c d m k → k ≤ 4
+counted a b c d m k (in-one p e n) = omega arith
+counted a b c d m k (in-two p q e n) = omega arith
+counted a b c d m k (in-three p q r e n) = omega arith
+counted a b c d m k (in-four p q r t e n) = omega arith
 
 -- ---- the number that the code makes is the one that stands there
 module _ (a b c d : ℕ) (pa : a < 128) (pb : b < 128) (pc : c < 128) (pd : d < 128) (m bad five bits count : ℕ)
     (eb : bad ≡ word (badOf a) (badOf b) (badOf c) (badOf d)) (nb : bitAnd bad m ≡ 0)
-    (ef : five ≡ word (fiveOf a) (fiveOf b) (fiveOf c) (fiveOf d)) (ev : bits ≡ bitsOf (bitAnd five m)) (ec : count ≡ countOf m)
+    (ef : five ≡ word (fiveOf a) (fiveOf b) (fiveOf c) (fiveOf d)) (ev : bits ≡ bitsOf (bitAnd five m))
     (s : List ℕ) (at : ℕ) (h : at + 4 ≤ length s)
     (sa : getD s at 0 ≡ a) (sb : getD s (at + 1) 0 ≡ b) (sc : getD s (at + 2) 0 ≡ c) (sd : getD s (at + 3) 0 ≡ d) where
   so : (v k : ℕ) → vlqAt s at ≡ Value v 0 (at + k) → v ≡ bits → k ≡ count → vlqAt s at ≡ Value bits 0 (at + count)
   so v k e p q = e ∙ ap (λ (x : ℕ). Value x 0 (at + k)) p ∙ ap (λ (x : ℕ). Value bits 0 (at + x)) q
 
-  value : Mask a b c d m → vlqAt s at ≡ Value bits 0 (at + count)
-  unfolding countOf
-  value (in-one p e) =
+  value : Mask a b c d m count → vlqAt s at ≡ Value bits 0 (at + count)
+  value (in-one p e n) =
       let z = zeros (badOf a) 0 0 0 (sym (left-one bad (badOf a) (badOf b) (badOf c) (badOf d) m eb (bad-lt a pa) (bad-lt b pb) (bad-lt c pc) (bad-lt d pd) e) ∙ nb) in
       let v : bits ≡ fiveOf a = ev ∙ ap bitsOf (left-one five (fiveOf a) (fiveOf b) (fiveOf c) (fiveOf d) m ef (five-lt a pa) (five-lt b pb) (five-lt c pc) (five-lt d pd) e) ∙ bits-word (fiveOf a) 0 0 0 (five-lt a pa) (omega arith) (omega arith) ∙ omega arith in
       so (fiveOf a) 1
       (one s at (fiveOf a) (fiveOf b) (fiveOf c) (fiveOf d) h (good a pa (z .0) (getD s at 0) sa) (last a pa (z .0) (getD s at 0) sa p))
-      (sym v) (sym (ec ∙ ap countOf e))
-  value (in-two p q e) =
+      (sym v) (sym n)
+  value (in-two p q e n) =
       let z = zeros (badOf a) (badOf b) 0 0 (sym (left-two bad (badOf a) (badOf b) (badOf c) (badOf d) m eb (bad-lt a pa) (bad-lt b pb) (bad-lt c pc) (bad-lt d pd) e) ∙ nb) in
       let v : bits ≡ fiveOf a + fiveOf b * 32 = ev ∙ ap bitsOf (left-two five (fiveOf a) (fiveOf b) (fiveOf c) (fiveOf d) m ef (five-lt a pa) (five-lt b pb) (five-lt c pc) (five-lt d pd) e) ∙ bits-word (fiveOf a) (fiveOf b) 0 0 (five-lt a pa) (five-lt b pb) (omega arith) ∙ omega arith in
       so (fiveOf a + fiveOf b * 32) 2
       (two s at (fiveOf a) (fiveOf b) (fiveOf c) (fiveOf d) h (good a pa (z .0) (getD s at 0) sa) (not-last a pa (z .0) (getD s at 0) sa p)
       (good b pb (z .1 .0) (getD s (at + 1) 0) sb) (last b pb (z .1 .0) (getD s (at + 1) 0) sb q))
-      (sym v) (sym (ec ∙ ap countOf e))
-  value (in-three p q r e) =
+      (sym v) (sym n)
+  value (in-three p q r e n) =
       let z = zeros (badOf a) (badOf b) (badOf c) 0 (sym (left-three bad (badOf a) (badOf b) (badOf c) (badOf d) m eb (bad-lt a pa) (bad-lt b pb) (bad-lt c pc) (bad-lt d pd) e) ∙ nb) in
       let v : bits ≡ fiveOf a + fiveOf b * 32 + fiveOf c * 1024 = ev ∙ ap bitsOf (left-three five (fiveOf a) (fiveOf b) (fiveOf c) (fiveOf d) m ef (five-lt a pa) (five-lt b pb) (five-lt c pc) (five-lt d pd) e) ∙ bits-word (fiveOf a) (fiveOf b) (fiveOf c) 0 (five-lt a pa) (five-lt b pb) (five-lt c pc) ∙ omega arith in
       so (fiveOf a + fiveOf b * 32 + fiveOf c * 1024) 3
       (three s at (fiveOf a) (fiveOf b) (fiveOf c) (fiveOf d) h (good a pa (z .0) (getD s at 0) sa) (not-last a pa (z .0) (getD s at 0) sa p)
       (good b pb (z .1 .0) (getD s (at + 1) 0) sb) (not-last b pb (z .1 .0) (getD s (at + 1) 0) sb q)
       (good c pc (z .1 .1 .0) (getD s (at + 2) 0) sc) (last c pc (z .1 .1 .0) (getD s (at + 2) 0) sc r))
-      (sym v) (sym (ec ∙ ap countOf e))
-  value (in-four p q r t e) =
+      (sym v) (sym n)
+  value (in-four p q r t e n) =
       let z = zeros (badOf a) (badOf b) (badOf c) (badOf d) (sym (left-four bad (badOf a) (badOf b) (badOf c) (badOf d) m eb (bad-lt a pa) (bad-lt b pb) (bad-lt c pc) (bad-lt d pd) e) ∙ nb) in
       let v : bits ≡ fiveOf a + fiveOf b * 32 + fiveOf c * 1024 + fiveOf d * 32768 = ev ∙ ap bitsOf (left-four five (fiveOf a) (fiveOf b) (fiveOf c) (fiveOf d) m ef (five-lt a pa) (five-lt b pb) (five-lt c pc) (five-lt d pd) e) ∙ bits-word (fiveOf a) (fiveOf b) (fiveOf c) (fiveOf d) (five-lt a pa) (five-lt b pb) (five-lt c pc) in
       so (fiveOf a + fiveOf b * 32 + fiveOf c * 1024 + fiveOf d * 32768) 4
@@ -215,21 +237,22 @@ module _ (a b c d : ℕ) (pa : a < 128) (pb : b < 128) (pc : c < 128) (pd : d < 
       (good b pb (z .1 .0) (getD s (at + 1) 0) sb) (not-last b pb (z .1 .0) (getD s (at + 1) 0) sb q)
       (good c pc (z .1 .1 .0) (getD s (at + 2) 0) sc) (not-last c pc (z .1 .1 .0) (getD s (at + 2) 0) sc r)
       (good d pd (z .1 .1 .1) (getD s (at + 3) 0) sd) (last d pd (z .1 .1 .1) (getD s (at + 3) 0) sd t))
-      (sym v) (sym (ec ∙ ap countOf e))
+      (sym v) (sym n)
 
 module _ (w : ℕ) (l : Lanes w) (f m bad five bits count : ℕ) (ee : f ≡ each endOf w) (nf : f ≡ 0 → ⊥) (em : m ≡ bitXor f (f - 1))
-    (eb : bad ≡ each badOf w) (nb : bitAnd bad m ≡ 0) (ef : five ≡ each fiveOf w) (ev : bits ≡ bitsOf (bitAnd five m)) (ec : count ≡ countOf m) where
-  mask : Mask (w % 256) (w / 256 % 256) (w / 65536 % 256) (w / 16777216) m
+    (eb : bad ≡ each badOf w) (nb : bitAnd bad m ≡ 0) (ef : five ≡ each fiveOf w) (ev : bits ≡ bitsOf (bitAnd five m)) (ec : count ≡ countOf f) where
+  mask : Mask (w % 256) (w / 256 % 256) (w / 65536 % 256) (w / 16777216) m count
   mask =
-      mask-by (w % 256) (w / 256 % 256) (w / 65536 % 256) (w / 16777216) f m ee nf em
-      (end-cases (w % 256) (l .first)) (end-cases (w / 256 % 256) (l .second)) (end-cases (w / 65536 % 256) (l .third)) (end-cases (w / 16777216) (l .fourth))
+      rw ec
+      (mask-by (w % 256) (w / 256 % 256) (w / 65536 % 256) (w / 16777216) f m ee nf em
+      (end-cases (w % 256) (l .first)) (end-cases (w / 256 % 256) (l .second)) (end-cases (w / 65536 % 256) (l .third)) (end-cases (w / 16777216) (l .fourth)))
 
   pub few : (count ≤ 4) × FewIn w bits count
   few = (
-    rw ec (counted (w % 256) (w / 256 % 256) (w / 65536 % 256) (w / 16777216) m mask),
+    counted (w % 256) (w / 256 % 256) (w / 65536 % 256) (w / 16777216) m count mask,
     λ s at h small is q.
         value (w % 256) (w / 256 % 256) (w / 65536 % 256) (w / 16777216) (l .first) (l .second) (l .third) (l .fourth)
-        m bad five bits count eb nb ef ev ec s at h
+        m bad five bits count eb nb ef ev s at h
         (sym (ap (λ (x : ℕ). x % 256) is ∙ first (getD s at 0) (getD s (at + 1) 0) (getD s (at + 2) 0) (getD s (at + 3) 0) (small at)))
         (sym (ap (λ (x : ℕ). x / 256 % 256) is ∙ second (getD s at 0) (getD s (at + 1) 0) (getD s (at + 2) 0) (getD s (at + 3) 0) (small at) (small (at + 1))))
         (sym (ap (λ (x : ℕ). x / 65536 % 256) is ∙ third (getD s at 0) (getD s (at + 1) 0) (getD s (at + 2) 0) (getD s (at + 3) 0) (small at) (small (at + 1)) (small (at + 2))))

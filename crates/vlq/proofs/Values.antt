@@ -8,6 +8,7 @@ use native.Mathlib.Omega.{arith}
 use lib.IntN.{natAbs}
 use lib.Dec.{ltb, eqb}
 use lib.ListN.{length, drop, length-drop}
+use lib.Pow.{pow-mono}
 use borrow.Author.Tests.{ltb-true}
 use Rattle.list.specs.Pick.{pick}
 use Rattle.digits.specs.Digits.{digitOf, isDelim}
@@ -119,3 +120,23 @@ tail-under (b ∷ bs) left n len e =
     picked-under (isDelim b) (eqb left 0) (ltb (digitOf b) 32) (digitOf b) (digitsFrom (left - 1) bs) n len refl
     (λ n′ len′. tail-under bs (left - 1) n′ len′)
     e
+
+-- a number of at most four digits is below 2^20
+under-by : (at : ℕ) (l : List ℕ) (t : Digits) (bits count : ℕ) → digitsFrom 13 l ≡ t → vlqFrom at t ≡ Value bits 0 (at + count) → count ≤ 4 → bits < 2 ^ 20
+under-by at l (cut k) bits count q e h = absurd (zero-one cc)
+under-by at l (long k) bits count q e h = absurd (zero-one cc)
+under-by at l (num n len) bits count q e h =
+    let w : n % 2 ^ 64 ≡ bits = cc in
+    let m : at + len ≡ at + count = cc in
+    let u : n < 2 ^ (5 * len) = tail-under l 13 n len q in
+    let p : 2 ^ (5 * len) ≤ 2 ^ 20 = pow-mono {i = 5 * len} {j = 20} (omega arith) in
+    omega arith
+
+few-by : (t : Bool) (at : ℕ) (l : List ℕ) (bits count : ℕ) → pick t End (vlqFrom at (digitsFrom 13 l)) ≡ Value bits 0 (at + count) → count ≤ 4 → bits < 2 ^ 20
+few-by true at l bits count e h = absurd (zero-one cc)
+few-by false at l bits count e h = under-by at l (digitsFrom 13 l) bits count refl e h
+
+pub few-under : (at : ℕ) (l : List ℕ) (bits count : ℕ) → vlqOf at l ≡ Value bits 0 (at + count) → count ≤ 4 → bits < 2 ^ 20
+unfolding vlqOf
+few-under at [] bits count e h = absurd (zero-one cc)
+few-under at (b ∷ bs) bits count e h = few-by (isDelim b) at (b ∷ bs) bits count e h

@@ -5,6 +5,7 @@ use mathlib.Core.List.{List}
 use mathlib.Core.Path.{_≡_}
 use Prim.Native.Nat.{ℕ, _+_, _-_, _*_, _/_, _%_, _<_, _≤_}
 use lib.Bits.{bitAnd, bitOr, bitXor}
+use lib.Count.{trailingZeros}
 use lib.Dec.{ltb}
 use lib.ListN.{length, getD}
 use Rattle.list.specs.Pick.{pick}
@@ -54,6 +55,6 @@ fiveOf b = bitAnd (b + lowOf b * 15 + 10 - bitAnd b (lowOf b * 4) / 4 * 3 - bitA
 abbrev pub bitsOf : ℕ → ℕ
 bitsOf x = x % 256 + x / 256 % 256 * 32 + x / 65536 % 256 * 1024 + x / 16777216 * 32768
 
--- how many bytes of m are 255, where the others are 0
+-- how many bytes of f there are up to the first in which a bit is set
 unfoldable pub countOf : ℕ → ℕ
-countOf m = bitAnd m 16843009 * 16843009 / 16777216 % 256
+countOf f = trailingZeros 32 f / 8 + 1

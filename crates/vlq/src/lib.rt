@@ -42,9 +42,9 @@ fn put_digit(cur: u64, k: u64, d: u64) -> u64
 }
 
 // A number of few digits: its bits and how many they are, 0 where that is not known.
-struct Few {
-    bits: u64,
-    count: usize,
+pub struct Few {
+    pub bits: u64,
+    pub count: usize,
 }
 
 // Four bytes at once: `w` is made of four bytes below 128, and what these functions give has a number in the place of each. No sum or
@@ -99,11 +99,11 @@ fn bits_of(x: u32) -> u64
     (x % 256 + x / 256 % 256 * 32 + x / 65536 % 256 * 1024 + x / 16777216 * 32768) as u64
 }
 
-// How many bytes are 255, where the others are 0.
-fn count_of(m: u32) -> usize
-    ensures { λ r. ⌜ r ≡ countOf m ⌝ }
+// How many bytes there are up to the first in which a bit is set.
+fn count_of(f: u32) -> usize
+    ensures { λ r. ⌜ r ≡ countOf f ⌝ }
 {
-    ((m & 0x0101_0101) as usize * 16843009) / 16777216 % 256
+    (u32::trailing_zeros(f) / 8 + 1) as usize
 }
 
 // A number that ends within four bytes. How many digits it has is as good as random, so that it is data and no branch. The tests are
@@ -128,11 +128,11 @@ fn few_of(w: u32) -> Few
     }
     Few {
         bits: bits_of(fives_of(w, l, u) & m),
-        count: count_of(m),
+        count: count_of(f),
     }
 }
 
-fn few_digits(s: &[u8], at: usize) -> Few
+pub fn few_digits(s: &[u8], at: usize) -> Few
     requires { ⌜ at + 4 ≤ length (now s) ⌝ }
     ensures { λ r. ⌜ (r .count ≤ 4) × FewAt (now (s .entry)) at (r .bits) (r .count) ⌝ }
 {

@@ -1,5 +1,4 @@
 -- `step::segment_step` meets its contract. Assumes nothing.
-use Rattle.short.proofs.Laws.{shaped-few}
 use mathlib.Core.Path.{_∙_, ap}
 use native.Mathlib.Omega.{arith}
 use Rattle.step.specs.Ways.{told}
@@ -15,20 +14,20 @@ try-fast-4-or-5-segment-requires : tie.Need-try-fast-4-or-5-segment-requires
 try-fast-4-or-5-segment-requires c κs = c .if1 .taken
 
 near-all-requires : tie.Need-near-all-requires
-near-all-requires c κs = c .before .try-fast-4-or-5-segment .ensures (c .if2 .taken) .1
+near-all-requires c κs = search needs
 
 fits-requires : tie.Need-fits-requires
 fits-requires c κs = search needs
 
 short-step-requires : tie.Need-short-step-requires
-short-step-requires c κs = (c .before .fits2 .ensures (c .if3 .taken), omega (arith, shaped-few _ _ _ (c .before .before .before .before .try-fast-4-or-5-segment .ensures (c .before .before .before .if2 .taken) .0), c .before .before .before .before .before .if1 .taken, c .before .before .before .before .before .before .before .good))
+short-step-requires c κs = (c .before .fits2 .ensures (c .if3 .taken), omega (arith, c .before .before .before .before .try-fast-4-or-5-segment .ensures (c .before .before .before .if2 .taken) .within, c .before .before .before .before .before .before .before .good))
 
 returns : tie.Need-returns
 returns c =
     c .short-step .ensures
     ∙ ap told
-    (agrees (c .before .before .before .before .before .before .before .before .args .mode) (c .before .before .before .before .before .before .before .before .args .s .now) (c .before .before .before .before .before .before .before .before .args .sources) (c .before .before .before .before .before .before .before .before .args .names) (c .before .before .before .before .before .before .before .before .args .st) _ (c .before .before .before .before .before .before .if1 .taken) (c .before .before .before .near-all .ensures) _
-    (c .before .before .before .before .before .try-fast-4-or-5-segment .ensures (c .before .before .before .before .if2 .taken) .0) (c .before .before .fits2 .ensures (c .before .if3 .taken)) (c .before .before .before .before .before .before .before .before .fits .sources .fits))
+    (agrees (c .before .before .before .before .before .before .before .before .args .mode) (c .before .before .before .before .before .before .before .before .args .s .now) (c .before .before .before .before .before .before .before .before .args .sources) (c .before .before .before .before .before .before .before .before .args .names) (c .before .before .before .before .before .before .before .before .args .st) _ (c .before .before .before .before .before .try-fast-4-or-5-segment .ensures (c .before .before .before .before .if2 .taken)) _ (c .before .before .before .near-all .ensures)
+    (c .before .before .fits2 .ensures (c .before .if3 .taken)) (c .before .before .before .before .before .before .before .before .fits .sources .fits))
 
 general-step-requires : tie.Need-general-step-requires
 general-step-requires c κs = search needs

@@ -24,8 +24,8 @@ add-r c = search needs
 shown-name-requires : tie.Need-shown-name-requires
 shown-name-requires c κs = search needs
 
-cast-t9 : tie.Need-cast-t9
-cast-t9 c = search needs
+cast-t10 : tie.Need-cast-t10
+cast-t10 c = search needs
 
 returns : tie.Need-returns
 returns c = rw (c .before .shown-name .ensures)
@@ -33,4 +33,4 @@ returns c = rw (c .before .shown-name .ensures)
 pub short-step-spec : {M : Type 1} → statement M
 short-step-spec =
     tie.close
-    (tie.spec cast-r cast-r-2 cast-r-3 cast-r-4 cast-r-5 add-r shown-name-requires cast-t9 returns)
+    (tie.spec cast-r cast-r-2 cast-r-3 cast-r-4 cast-r-5 add-r shown-name-requires cast-t10 returns)

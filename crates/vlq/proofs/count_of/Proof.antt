@@ -1,20 +1,20 @@
 -- `vlq::count_of` meets its contract. Assumes nothing.
 use mathlib.Core.Path.{refl}
 use native.Mathlib.Omega.{arith}
-use lib.Bits.{and-le-r}
+use lib.Count.{trailing-le}
 use Rattle.vlq.specs.Several.{countOf}
 use Rattle.vlq.proofs.count_of.Statement.{statement}
 use Rattle.vlq.proofs.count_of.Tie as tie
 
-cast-result : tie.Need-cast-result
-cast-result c = omega (arith, and-le-r (c .args .m) 16843009)
+add-result : tie.Need-add-result
+add-result c = omega (arith, trailing-le 32 (c .args .f))
 
-mul-result : tie.Need-mul-result
-mul-result c = omega (arith, and-le-r (c .args .m) 16843009)
+cast-result : tie.Need-cast-result
+cast-result c = omega (arith, trailing-le 32 (c .args .f))
 
 returns : tie.Need-returns
 unfolding countOf
 returns c = refl
 
 pub count-of-spec : {M : Type 1} → statement M
-count-of-spec = tie.close (tie.spec cast-result mul-result returns)
+count-of-spec = tie.close (tie.spec add-result cast-result returns)

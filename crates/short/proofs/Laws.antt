@@ -19,7 +19,7 @@ use Rattle.vlq.proofs.Steps.{one-digit}
 use Rattle.vlq.proofs.Values.{few-under}
 use Rattle.short.specs.declared.Shape.{Shape}
 use Rattle.short.specs.declared.Near.{Near}
-use Rattle.short.specs.Short.{Bytes, Read, Reading, moveOf, Stands, Three, Rest, Shaped, Stepped, Fit}
+use Rattle.short.specs.Short.{Bytes, Read, Reading, moveOf, Stands, Three, Rest, Shaped, Fit}
 
 -- ---- the shape: b is the fifth byte
 
@@ -248,6 +248,3 @@ module _ (n : Near) (k sources names cap : ℕ) (ec : cap ≡ pick (eqb k 5) nam
 
 pub unshaped : (s : List ℕ) (at : ℕ) (r : Shape) → r .fields ≡ 0 → 0 < r .fields → Shaped s at r
 unshaped s at r e h = absurd (omega arith)
-
-pub stepped : (x base e m : ℕ) → base < 2 ^ 32 → m ≡ (base + e) % 2 ^ 64 → x ≡ (m + 18446744073709551600) % 2 ^ 64 → Stepped x base e
-stepped x base e m h em ex = record { small = h; moved = omega arith }

@@ -6,7 +6,7 @@ ghost use mathlib.Core.Path.{_≡_};
 ghost use mathlib.Core.Bool.{true};
 ghost use Prim.Native.Nat.{_+_, _-_, _*_, _<_, _≤_, _^_};
 ghost use lib.Dec.{eqb, ltb};
-ghost use lib.ListN.{length};
+ghost use lib.ListN.{length, getD};
 ghost use Rattle.list.specs.Pick.{pick};
 ghost use Rattle.short.specs.Short.{Bytes, Ones, Stepping, Reading, moveOf, Three, Shaped, Stepped, Nears, Fit};
 
@@ -160,27 +160,25 @@ fn few_after(s: &[u8], at: usize, steps: u32) -> Shape
 
 // The first three values have one digit each, and the others up to four. `A` stands in for the fourth byte.
 fn try_few(s: &[u8], at: usize) -> Shape
-    requires { ⌜ at + 12 ≤ length (now s) ⌝ }
+    requires { ⌜ (at + 12 ≤ length (now s)) × (getD (now s) (at + 1) 0 ≡ 65) ⌝ }
     ensures { λ r. ⌜ (0 < r .fields → Shaped (now (s .entry)) at r) ⌝ }
 {
-    if s[at + 1] == 65 {
-        let steps = steps_of(digits::four_of(s, at) % 16777216 + 1090519040);
-        if 0 < steps {
-            return few_after(s, at, steps);
-        }
+    let steps = steps_of(digits::four_of(s, at) % 16777216 + 1090519040);
+    if 0 < steps {
+        return few_after(s, at, steps);
     }
     unshaped()
 }
 
-// The delimiter is looked for first: where it stands after values of one digit each, nearly every segment is of that shape.
+// The delimiter is looked for before the digits: where it stands after values of one digit each, nearly every segment is of that shape.
 pub fn try_fast_4_or_5_segment(s: &[u8], at: usize) -> Shape
     requires { ⌜ at + 12 ≤ length (now s) ⌝ }
     ensures { λ r. ⌜ (0 < r .fields → Shaped (now (s .entry)) at r) ⌝ }
 {
-    let b = s[at + 4];
-    let fields = five_or_four(b);
-    if digits::is_delim(s[at + fields]) {
-        if s[at + 1] == 65 {
+    if s[at + 1] == 65 {
+        let b = s[at + 4];
+        let fields = five_or_four(b);
+        if digits::is_delim(s[at + fields]) {
             let steps = steps_of(with_second(digits::four_of(s, at), fifth(b)));
             if 0 < steps {
                 let col = (steps / 16777216) as u64;
@@ -193,10 +191,11 @@ pub fn try_fast_4_or_5_segment(s: &[u8], at: usize) -> Shape
                     name,
                 };
             }
+            return unshaped();
         }
-        return unshaped();
+        return try_few(s, at);
     }
-    try_few(s, at)
+    unshaped()
 }
 
 // A running number after a step: `e` is 16 more than the step, modulo 2^64.

@@ -4,12 +4,6 @@ use borrow.Author.Needs.{needs}
 use Rattle.short.proofs.try_few.Statement.{statement}
 use Rattle.short.proofs.try_few.Tie as tie
 
-add-if1 : tie.Need-add-if1
-add-if1 c = search needs
-
-shared-slice-read-if1 : tie.Need-shared-slice-read-if1
-shared-slice-read-if1 c = search needs
-
 four-of-requires : tie.Need-four-of-requires
 four-of-requires c κs = search needs
 
@@ -20,7 +14,7 @@ steps-of-requires : tie.Need-steps-of-requires
 steps-of-requires c κs = search needs
 
 few-after-requires : tie.Need-few-after-requires
-few-after-requires c κs = (c .before .before .before .before .before .before .pre, few-three _ (c .before .before .before .before .before .before .args .at) (λ i. c .before .before .before .before .before .shared-slice-known .given i .fits) (c .before .before .before .before .before .before .pre) (c .before .before .before .if1 .taken) _ (c .before .before .four-of .ensures) _ (c .before .steps-of .ensures) (c .if2 .taken))
+few-after-requires c κs = (c .before .before .before .before .pre .0, few-three _ (c .before .before .before .before .args .at) (λ i. c .before .before .before .shared-slice-known .given i .fits) (c .before .before .before .before .pre .0) (c .before .before .before .before .pre .1) _ (c .before .before .four-of .ensures) _ (c .before .steps-of .ensures) (c .if1 .taken))
 
 returns : tie.Need-returns
 returns c = search needs
@@ -35,8 +29,6 @@ pub try-few-spec : {M : Type 1} → statement M
 try-few-spec =
     tie.close
     (tie.spec
-    add-if1
-    shared-slice-read-if1
     four-of-requires
     add-steps-of
     steps-of-requires

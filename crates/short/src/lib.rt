@@ -170,7 +170,8 @@ fn try_few(s: &[u8], at: usize) -> Shape
     unshaped()
 }
 
-// The delimiter is looked for before the digits: where it stands after values of one digit each, nearly every segment is of that shape.
+// The delimiter is looked for before the digits: where it stands at the fifth or sixth byte, most segments have values of one digit
+// each. What has not is tried with more of them.
 pub fn try_fast_4_or_5_segment(s: &[u8], at: usize) -> Shape
     requires { ⌜ at + 12 ≤ length (now s) ⌝ }
     ensures { λ r. ⌜ (0 < r .fields → Shaped (now (s .entry)) at r) ⌝ }
@@ -191,7 +192,6 @@ pub fn try_fast_4_or_5_segment(s: &[u8], at: usize) -> Shape
                     name,
                 };
             }
-            return unshaped();
         }
         return try_few(s, at);
     }

@@ -56,23 +56,17 @@ returns c =
     λ h. shaped (now (c .before .before .before .before .before .before .before .before .before .before .before .before .before .args .s)) (c .before .before .before .before .before .before .before .before .before .before .before .before .before .args .at) (λ i. c .before .before .before .before .before .before .before .before .before .before .before .before .shared-slice-known .given i .fits) _ refl (c .before .before .before .before .before .before .before .before .before .before .if1 .taken) _ (c .before .before .before .before .four-of .ensures) _ (c .before .before .before .fifth .ensures) _ (c .before .before .with-second .ensures) _ (c .before .steps-of .ensures) (c .if3 .taken)
     _ (c .before .before .before .before .before .before .before .before .five-or-four .ensures) (sym (c .before .before .before .before .before .before .is-delim .ensures) ∙ c .before .before .before .before .before .if2 .taken) (omega (arith, c .before .before .before .before .before .before .before .before .before .before .before .before .before .pre))
 
-unshaped-requires : tie.Need-unshaped-requires
-unshaped-requires c κs = search needs
-
-returns-2 : tie.Need-returns-2
-returns-2 c = unshaped _ _ _ (c .unshaped .ensures)
-
 try-few-requires : tie.Need-try-few-requires
 try-few-requires c κs = search needs
 
+returns-2 : tie.Need-returns-2
+returns-2 c = search needs
+
+unshaped-requires : tie.Need-unshaped-requires
+unshaped-requires c κs = search needs
+
 returns-3 : tie.Need-returns-3
-returns-3 c = search needs
-
-unshaped-requires-2 : tie.Need-unshaped-requires-2
-unshaped-requires-2 c κs = search needs
-
-returns-4 : tie.Need-returns-4
-returns-4 c = unshaped _ _ _ (c .unshaped2 .ensures)
+returns-3 c = unshaped _ _ _ (c .unshaped .ensures)
 
 pub try-fast-4-or-5-segment-spec : {M : Type 1} → statement M
 try-fast-4-or-5-segment-spec =
@@ -93,9 +87,7 @@ try-fast-4-or-5-segment-spec =
     cast-col
     cast-name
     returns
-    unshaped-requires
-    returns-2
     try-few-requires
-    returns-3
-    unshaped-requires-2
-    returns-4)
+    returns-2
+    unshaped-requires
+    returns-3)

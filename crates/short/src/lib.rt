@@ -171,9 +171,9 @@ fn try_few(s: &[u8], at: usize) -> Shape
 }
 
 // The delimiter is looked for before the digits: where it stands at the fifth or sixth byte, most segments have values of one digit
-// each. What has not is tried with more of them.
+// each. What has not is tried with more of them, if the text has twelve bytes left.
 pub fn try_fast_4_or_5_segment(s: &[u8], at: usize) -> Shape
-    requires { ⌜ at + 12 ≤ length (now s) ⌝ }
+    requires { ⌜ at + 6 ≤ length (now s) ⌝ }
     ensures { λ r. ⌜ (0 < r .fields → Shaped (now (s .entry)) at r) ⌝ }
 {
     if s[at + 1] == 65 {
@@ -193,7 +193,9 @@ pub fn try_fast_4_or_5_segment(s: &[u8], at: usize) -> Shape
                 };
             }
         }
-        return try_few(s, at);
+        if at + 12 <= s.len() {
+            return try_few(s, at);
+        }
     }
     unshaped()
 }

@@ -110,7 +110,7 @@ fn segment_step(s: &[u8], mode: Mode, sources: u32, names: u32, st: State) -> St
     ensures { λ r. ⌜ r ≡ told (segmentedAt mode sources names (now (s .entry)) st) ⌝ }
 {
     let at = st.at;
-    if at + 12 <= s.len() {
+    if at + 6 <= s.len() {
         let shape = short::try_fast_4_or_5_segment(s, at);
         let k = shape.fields;
         if 0 < k {

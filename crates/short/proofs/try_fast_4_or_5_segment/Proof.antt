@@ -56,6 +56,9 @@ returns c =
     λ h. shaped (now (c .before .before .before .before .before .before .before .before .before .before .before .before .before .args .s)) (c .before .before .before .before .before .before .before .before .before .before .before .before .before .args .at) (λ i. c .before .before .before .before .before .before .before .before .before .before .before .before .shared-slice-known .given i .fits) _ refl (c .before .before .before .before .before .before .before .before .before .before .if1 .taken) _ (c .before .before .before .before .four-of .ensures) _ (c .before .before .before .fifth .ensures) _ (c .before .before .with-second .ensures) _ (c .before .steps-of .ensures) (c .if3 .taken)
     _ (c .before .before .before .before .before .before .before .before .five-or-four .ensures) (sym (c .before .before .before .before .before .before .is-delim .ensures) ∙ c .before .before .before .before .before .if2 .taken) (omega (arith, c .before .before .before .before .before .before .before .before .before .before .before .before .before .pre))
 
+add-if4 : tie.Need-add-if4
+add-if4 c = search needs
+
 try-few-requires : tie.Need-try-few-requires
 try-few-requires c κs = search needs
 
@@ -87,6 +90,7 @@ try-fast-4-or-5-segment-spec =
     cast-col
     cast-name
     returns
+    add-if4
     try-few-requires
     returns-2
     unshaped-requires

@@ -1,5 +1,5 @@
 -- A run, by what its step is; and where a step that gives a token lies. Assumes nothing.
-use mathlib.Core.Path.{_≡_, refl, sym, _∙_, ap, subst}
+use mathlib.Core.Path.{_≡_, refl, sym, ap, subst}
 use mathlib.Core.Bool.{Bool, true, false}
 use mathlib.Core.List.{List}
 use Prim.Native.Nat.{ℕ, zero, suc, _+_, _≤_, _<_}
@@ -7,7 +7,6 @@ use native.Mathlib.Omega.{arith}
 use lib.Dec.{ltb}
 use lib.ListN.{length, drop}
 use borrow.Author.Tests.{lt-ltb, le-ltb, ltb-true, ltb-false}
-use Rattle.list.specs.Pick.{pick}
 use Rattle.code.specs.declared.Code.{Code}
 use Rattle.token.specs.Table.{noSegment, withSegment}
 use Rattle.token.specs.declared.Token.{Token}
@@ -46,15 +45,11 @@ module _ (mode : Mode) (sources names : ℕ) (text : List ℕ) where
     -- the token goes on if it begins early, and it is refused if not
     put-early : (go : Token → State → Out) → begin < noSegment → stepThen index (length text) (steps s) go ≡ go (withSegment t begin) s′
     unfolding stepThen
-    put-early go l =
-        ap (λ (r : Step). stepThen index (length text) r go) e
-        ∙ ap (λ (x : Bool). pick x (go (withSegment t begin) s′) (stopped (Code.TooBig index) begin)) (lt-ltb begin noSegment l)
+    put-early go l = rw (e, lt-ltb begin noSegment l)
 
     put-late : (go : Token → State → Out) → noSegment ≤ begin → stepThen index (length text) (steps s) go ≡ stopped (Code.TooBig index) begin
     unfolding stepThen
-    put-late go l =
-        ap (λ (r : Step). stepThen index (length text) r go) e
-        ∙ ap (λ (x : Bool). pick x (go (withSegment t begin) s′) (stopped (Code.TooBig index) begin)) (le-ltb begin noSegment l)
+    put-late go l = rw (e, le-ltb begin noSegment l)
 
     pub run-late : (left : ℕ) → noSegment ≤ begin → runs index left s ≡ stopped (Code.TooBig index) begin
     unfolding run

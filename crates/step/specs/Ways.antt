@@ -21,7 +21,7 @@ use Rattle.step.specs.Step.{segmentStep, stepAt}
 use Rattle.step.specs.declared.Step.{Step}
 
 -- the step, of which the token says where its segment begins, modulo 2^32; it is said here and not when the token is placed since
--- decoding takes a tenth less time so
+-- decoding takes less time so (bench/TRIALS.md)
 abbrev pub told : Step → Step
 told (Step.Put t begin s) = Step.Put (withSegment t (begin % 2 ^ 32)) begin s
 told (Step.Refuse code offset) = Step.Refuse code offset

@@ -1,7 +1,7 @@
 -- docs/RULES.md, Codes: the number of each code, and the number that goes with it. Assumes nothing.
 use Prim.Native.Nat.{ℕ}
 use Rattle.code.specs.declared.Code.{Code}
-use Rattle.code.specs.declared.Code.the-variants.{Done, VlqLeftover, VlqOverflow, BadSegmentSize, BadSourceReference, BadNameReference, WideValue, TableFull, NoRoom, LineGoesBack, BadChunk, BadTable, TooBig, MoreThanOneSource, BadNames}
+use Rattle.code.specs.declared.Code.the-variants.{Done, VlqLeftover, VlqOverflow, BadSegmentSize, BadSourceReference, BadNameReference, WideValue, TableFull, NoRoom, LineGoesBack, BadChunk, BadTable, TooBig, MoreThanOneSource, BadNames, OddList}
 
 abbrev pub codeOf : Code → ℕ
 codeOf Done = 0
@@ -19,6 +19,7 @@ codeOf BadTable = 11
 codeOf (TooBig n) = 12
 codeOf MoreThanOneSource = 13
 codeOf BadNames = 14
+codeOf OddList = 17
 
 -- where the table lists no number it is 0
 abbrev pub numberOf : Code → ℕ
@@ -37,3 +38,4 @@ numberOf BadTable = 0
 numberOf (TooBig n) = n
 numberOf MoreThanOneSource = 0
 numberOf BadNames = 0
+numberOf OddList = 0

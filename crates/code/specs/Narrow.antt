@@ -2,7 +2,7 @@
 -- The numbers of 32 bits. Assumes nothing.
 use Prim.Native.Nat.{ℕ}
 use Rattle.code.specs.declared.Code.{Code}
-use Rattle.code.specs.declared.Code.the-variants.{Done, VlqLeftover, VlqOverflow, BadSegmentSize, BadSourceReference, BadNameReference, WideValue, TableFull, NoRoom, LineGoesBack, BadChunk, BadTable, TooBig, MoreThanOneSource, BadNames}
+use Rattle.code.specs.declared.Code.the-variants.{Done, VlqLeftover, VlqOverflow, BadSegmentSize, BadSourceReference, BadNameReference, WideValue, TableFull, NoRoom, LineGoesBack, BadChunk, BadTable, TooBig, MoreThanOneSource, BadNames, OddList}
 
 abbrev pub narrowOf : Code → ℕ
 narrowOf Done = 0
@@ -20,3 +20,4 @@ narrowOf BadTable = 0
 narrowOf (TooBig n) = n
 narrowOf MoreThanOneSource = 0
 narrowOf BadNames = 0
+narrowOf OddList = 0

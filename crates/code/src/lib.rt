@@ -19,6 +19,7 @@ pub enum Code {
     TooBig(u32),
     MoreThanOneSource,
     BadNames,
+    OddList,
 }
 
 // The code's number in the table of docs/RULES.md.
@@ -41,6 +42,7 @@ pub fn code_of(c: Code) -> u64
         Code::TooBig(_) => 12,
         Code::MoreThanOneSource => 13,
         Code::BadNames => 14,
+        Code::OddList => 17,
     }
 }
 
@@ -64,6 +66,7 @@ fn narrow_number(c: Code) -> u64
         Code::TooBig(n) => n as u64,
         Code::MoreThanOneSource => 0,
         Code::BadNames => 0,
+        Code::OddList => 0,
     }
 }
 

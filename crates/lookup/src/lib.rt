@@ -1,4 +1,5 @@
 // Finds the token at a generated position.
+use token::NONE;
 ghost use mathlib.Core.Path.{_≡_};
 ghost use mathlib.Core.Bool.{false};
 ghost use Prim.Native.Nat.{_<_};
@@ -6,7 +7,8 @@ ghost use lib.Dec.{eqb, leb};
 ghost use lib.ListN.{length};
 ghost use Rattle.list.specs.Pick.{both};
 ghost use Rattle.token.specs.Table.{badTable, places, tokenAt};
-ghost use Rattle.lookup.specs.Lookup.{Looks, lookupOf, foundOf, foundCode, foundNumber};
+ghost use Rattle.lookup.specs.Lookup.{Looks, bestOf, lookupOf, foundOf, foundCode, foundNumber};
+ghost use Rattle.lookup.specs.Parts.{Between, indexOf};
 
 // The index of the token that is found, or why there is none.
 pub enum Found {
@@ -53,24 +55,40 @@ fn takes(table: &[u32], i: usize, line: u32, col: u32, least: u32) -> bool
     least <= t.dst_col
 }
 
-// The lookup in a table that is known to be one.
-pub fn look_in(table: &[u32], line: u32, col: u32) -> Found
-    requires { ⌜ badTable (length (now table)) ≡ false ⌝ }
-    ensures { λ r. ⌜ r ≡ foundOf (lookupOf (now (table .entry)) line col) ⌝ }
+// The best token before `to`, where `found` is the best before `from`; NONE where there is none.
+pub fn best_in(table: &[u32], from: usize, to: usize, line: u32, col: u32, found: u32) -> u32
+    requires { ⌜ Between (now table) from to × (found ≡ indexOf (bestOf (now table) line col from)) ⌝ }
+    ensures { λ r. ⌜ r ≡ indexOf (bestOf (now (table .entry)) line col to) ⌝ }
 {
-    let places = token::places_in(table.len());
-    let mut best = Found::Nothing;
+    let mut best = found;
     let mut least: u32 = 0;
-    let mut i: usize = 0;
-    while i < places {
+    if found != NONE {
+        let t = token::token_at(table, found as usize);
+        least = t.dst_col;
+    }
+    let mut i = from;
+    while i < to {
         if takes(table, i, line, col, least) {
-            best = Found::At(i as u32);
+            best = i as u32;
             let t = token::token_at(table, i);
             least = t.dst_col;
         }
         i += 1;
     }
     best
+}
+
+// The lookup in a table that is known to be one.
+pub fn look_in(table: &[u32], line: u32, col: u32) -> Found
+    requires { ⌜ badTable (length (now table)) ≡ false ⌝ }
+    ensures { λ r. ⌜ r ≡ foundOf (lookupOf (now (table .entry)) line col) ⌝ }
+{
+    let places = token::places_in(table.len());
+    let best = best_in(table, 0, places, line, col, NONE);
+    if best == NONE {
+        return Found::Nothing;
+    }
+    Found::At(best)
 }
 
 // The token at a position: the largest column up to the asked one on its line, among equals the latest in the table.

@@ -17,6 +17,7 @@ ghost use Rattle.premises.specs.Premises.{Decides};
 ghost use Rattle.checked_premises.specs.Checked.{DecidesChecked};
 ghost use Rattle.translate.specs.Translate.{Translates};
 ghost use Rattle.lookup.specs.Lookup.{Looks};
+ghost use Rattle.lookup_many.specs.Many.{LooksMany};
 ghost use Rattle.compose.specs.Compose.{mapsOf, Composes};
 ghost use Rattle.records.specs.Records.{TranslatesRecords, answerOf};
 ghost use Rattle.peghayrick.specs.Exports.{Goes, version, flag, decodedOut, encodedOut, foundOut, composedOut, nameOut};
@@ -123,7 +124,7 @@ fn answer_out(c: Code) -> Answer
 pub extern "C" fn pgk_version() -> u64
     ensures { λ r. ⌜ r ≡ version ⌝ }
 {
-    6000
+    7000
 }
 
 // The numbers that a table needs so that decoding the text never says TableFull.
@@ -223,6 +224,14 @@ pub extern "C" fn pgk_lookup(table: &[u32], line: u32, col: u32) -> Answer
         code: lookup::found_code(f),
         number: lookup::found_number(f),
     }
+}
+
+// For each pair of line and column the token's index, or 4,294,967,295 where there is none.
+#[no_mangle]
+pub extern "C" fn pgk_lookup_many(table: &[u32], positions: &[u32], found: &mut [u32]) -> Answer
+    ensures { λ r. ⌜ Goes (λ c. LooksMany (now (table .entry)) (now (positions .entry)) (now (found .entry)) c (now (found .exit))) answerOf r ⌝ }
+{
+    answer_out(lookup_many::lookup_many(table, positions, found))
 }
 
 #[no_mangle]

@@ -38,12 +38,12 @@ module _ (table : List ℕ) (line col : ℕ) where
       record { within = h; on = eqb-true (tokenAt table i .«dst_line») line (b .0); before = leb-true (column i) col (b .1) }
 
   -- what an answer says of the first n tokens
-  abbrev Among : ℕ → Option ℕ → Type 0
+  abbrev pub Among : ℕ → Option ℕ → Type 0
   Among n none = (j : ℕ) → j < n → fits table line col j ≡ true → ⊥
   Among n (some i) = (i < n) × ((fits table line col i ≡ true) × ((j : ℕ) → j < n → fits table line col j ≡ true → NotAfter table j i))
 
   -- what does not come after i does not come after a later k whose column is no less
-  past : (j i k : ℕ) → column i ≤ column k → j < k → NotAfter table j i → NotAfter table j k
+  pub past : (j i k : ℕ) → column i ≤ column k → j < k → NotAfter table j i → NotAfter table j k
   past j i k c h (inl l) = inl (omega arith)
   past j i k c h (inr e) = ⊎-elim (λ q. inr (e .0 ∙ q, omega arith)) (λ l. inl (omega (arith, e .0))) (eq-or-lt-of-le c)
 
@@ -60,7 +60,7 @@ module _ (table : List ℕ) (line col : ℕ) where
   step n none false f a = upto _ n a (λ g. never (sym g ∙ f))
   step n (some i) false f a = (omega (arith, a .0), (a .1 .0, upto _ n (a .1 .1) (λ g. never (sym g ∙ f))))
 
-  among : (n : ℕ) → Among n (bestOf table line col n)
+  pub among : (n : ℕ) → Among n (bestOf table line col n)
   unfolding bestOf
   among zero = λ j h g. omega arith
   among (suc n) = step n (bestOf table line col n) (fits table line col n) refl (among n)
@@ -81,15 +81,23 @@ module _ (table : List ℕ) (line col : ℕ) where
   pub nothing : lookupOf table line col ≡ none → (j : ℕ) → Fits table line col j → ⊥
   nothing e j f = of none e j (f .within) (holds j f)
 
+  -- neither comes after the other: they are the same
+  same : (i j : ℕ) → NotAfter table i j → NotAfter table j i → i ≡ j
+  same i j (inl x) (inl y) = absurd (omega arith)
+  same i j (inl x) (inr y) = absurd (omega (arith, y .0))
+  same i j (inr x) (inl y) = absurd (omega (arith, x .0))
+  same i j (inr x) (inr y) = omega (arith, x .1, y .1)
+
   -- there is one best
   pub only : (i j : ℕ) → Best table line col i → Best table line col j → i ≡ j
-  only i j a b = go (b .most i (a .fits)) (a .most j (b .fits))
-    where
-      go : NotAfter table i j → NotAfter table j i → i ≡ j
-      go (inl x) (inl y) = absurd (omega arith)
-      go (inl x) (inr y) = absurd (omega (arith, y .0))
-      go (inr x) (inl y) = absurd (omega (arith, x .0))
-      go (inr x) (inr y) = omega (arith, x .1, y .1)
+  only i j a b = same i j (b .most i (a .fits)) (a .most j (b .fits))
+
+  -- and one among the first n
+  pub one-among : (n : ℕ) (o p : Option ℕ) → Among n o → Among n p → o ≡ p
+  one-among n none none a b = refl
+  one-among n none (some j) a b = absurd (a j (b .0) (b .1 .0))
+  one-among n (some i) none a b = absurd (b i (a .0) (a .1 .0))
+  one-among n (some i) (some j) a b = ap some (same i j (b .1 .1 i (a .0) (a .1 .0)) (a .1 .1 j (b .0) (b .1 .0)))
 
   -- the computed answer is one
   pub looks : badTable (length table) ≡ false → (o : Option ℕ) → lookupOf table line col ≡ o → Looks table line col (foundOf o)

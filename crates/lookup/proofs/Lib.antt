@@ -1,3 +1,4 @@
 pub mod Best
+pub mod Part
 pub mod Same
 pub mod Scan

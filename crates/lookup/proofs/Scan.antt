@@ -1,4 +1,4 @@
--- The scan: at turn i the best of the first i tokens is kept, with its column. Assumes nothing.
+-- The scan: at turn i the best of the first i tokens is kept by its number, with its column. Assumes nothing.
 use mathlib.Core.Path.{_≡_, refl, sym, _∙_, ap, subst}
 use mathlib.Core.Bool.{Bool, true, false}
 use mathlib.Core.List.{List}
@@ -14,7 +14,9 @@ use Rattle.token.proofs.Whole.{few}
 use Rattle.token.specs.Table.{places, badTable, tokenAt}
 use Rattle.token.specs.declared.Token.{Token}
 use Rattle.lookup.specs.Lookup.{fits, later, bestOf, lookupOf, foundOf}
+use Rattle.lookup.specs.Parts.{Between, indexOf}
 use Rattle.lookup.specs.declared.Found.{Found}
+use Rattle.lookup.proofs.Best.{among-first}
 
 -- the test of a token as the code makes it
 abbrev pub takesOf : Token → ℕ → ℕ → ℕ → Bool
@@ -33,6 +35,15 @@ module _ (t : Token) (line col least : ℕ) where
     by-column h =
         ap (λ (v : Token). leb least (v .«dst_col»)) is
         ∙ simp (eq-eqb (t .«dst_line») line on, le-leb (t .«dst_col») col (subst (λ (v : Token). v .«dst_col» ≤ col) is h))
+
+-- the number says which option it is
+pub some-index : (o : Option ℕ) (n : ℕ) → n ≡ indexOf o → (n ≡ 4294967295 → ⊥) → o ≡ some n
+some-index none n e ne = absurd (ne e)
+some-index (some i) n e ne = ap some (sym e)
+
+pub none-index : (o : Option ℕ) → ((j : ℕ) → o ≡ some j → j < 4294967295) → indexOf o ≡ 4294967295 → o ≡ none
+none-index none small e = refl
+none-index (some i) small e = let h = small i refl in absurd (omega (arith, e))
 
 -- the column that the next token must reach
 abbrev leastOf : List ℕ → Option ℕ → ℕ
@@ -54,6 +65,10 @@ module _ (table : List ℕ) where
   later-is i none = rw (le-leb 0 (tokenAt table i .«dst_col») (omega arith))
   later-is i (some j) = later-if i j (ltb (tokenAt table i .«dst_col») (tokenAt table j .«dst_col»)) refl
 
+-- the whole table: n tokens
+pub whole : (table : List ℕ) (n : ℕ) → badTable (length table) ≡ false → n ≡ places (length table) → Between table 0 n
+whole table n good en = record { good = good; rises = omega arith; within = omega (arith, en) }
+
 module _ (table : List ℕ) (line col : ℕ) where
   -- one more token
   next : (i : ℕ)
@@ -66,38 +81,71 @@ module _ (table : List ℕ) (line col : ℕ) where
       (ap (λ (p : Option ℕ). pick (fits table line col i) p o) (later-is table i o)
       ∙ taken (eqb (u .«dst_line») line) (leb (u .«dst_col») col) (leb (leastOf table o) (u .«dst_col»)) (some i) o)
 
-  -- all is the number of tokens
-  pub record Scanned (all : ℕ) (best : Found) (least i : ℕ) : Type 0 where
-    pub counted : all ≡ places (length table)
-    pub within : i ≤ all
-    pub found : best ≡ foundOf (bestOf table line col i)
+  -- before `to`, and within the table
+  pub record Scanned (to best least i : ℕ) : Type 0 where
+    pub within : i ≤ to
+    pub found : best ≡ indexOf (bestOf table line col i)
     pub reaches : least ≡ leastOf table (bestOf table line col i)
 
-  pub start : (all : ℕ) → all ≡ places (length table) → Scanned all Found.Nothing 0 0
+  pub index-small : (from to : ℕ) → Between table from to → (j : ℕ) → bestOf table line col from ≡ some j → j < 4294967295
+  index-small from to b j e = omega (arith, among-first table line col from j e, b .rises, b .within, few (length table) (b .good))
+
+  -- found is what was found before `from`
+  module _ (from to found : ℕ) (b : Between table from to) (ef : found ≡ indexOf (bestOf table line col from)) where
+
+    pub found-inside : (found ≡ 4294967295 → ⊥) → found < places (length table)
+    found-inside ne = omega (arith, among-first table line col from found (some-index (bestOf table line col from) found ef ne), b .rises, b .within)
+
+    pub start-none : found ≡ 4294967295 → Scanned to found 0 from
+    start-none e =
+        let o = none-index (bestOf table line col from) (index-small from to b) (sym ef ∙ e) in
+        record { within = b .rises; found = ef; reaches = sym (ap (leastOf table) o) }
+
+    -- t is the token as it was read
+    pub start-some : (found ≡ 4294967295 → ⊥) → (t : Token) → t ≡ tokenAt table found → Scanned to found (t .«dst_col») from
+    start-some ne t et =
+        let o = some-index (bestOf table line col from) found ef ne in
+        record { within = b .rises; found = ef; reaches = ap (λ (u : Token). u .«dst_col») et ∙ sym (ap (leastOf table) o) }
+
+  pub from-nothing : 4294967295 ≡ indexOf (bestOf table line col 0)
   unfolding bestOf
-  start all ea = record { counted = ea; within = omega arith; found = refl; reaches = refl }
+  from-nothing = refl
 
-  module _ (all : ℕ) (best : Found) (least i : ℕ) (f : Scanned all best least i) where
-    pub ended : all ≤ i → best ≡ foundOf (lookupOf table line col)
-    ended h = f .found ∙ ap (λ (k : ℕ). foundOf (bestOf table line col k)) (let e : i ≡ places (length table) = omega (arith, f .counted, f .within) in e)
+  module _ (from to best least i : ℕ) (b : Between table from to) (f : Scanned to best least i) where
+    pub ended : to ≤ i → best ≡ indexOf (bestOf table line col to)
+    ended h = f .found ∙ ap (λ (k : ℕ). indexOf (bestOf table line col k)) (let e : i ≡ to = omega (arith, f .within) in e)
 
-    module _ (h : i < all) where
+    module _ (h : i < to) where
       pub inside : i < places (length table)
-      inside = omega (arith, f .counted)
+      inside = omega (arith, b .within)
 
-      pub index-fits : badTable (length table) ≡ false → i < 4294967295
-      index-fits e = omega (arith, few (length table) e, f .counted)
+      pub index-fits : i < 4294967295
+      index-fits = omega (arith, few (length table) (b .good), b .within)
 
-      then : (b : Bool) → b ≡ takesOf (tokenAt table i) line col least → bestOf table line col (i + 1) ≡ pick b (some i) (bestOf table line col i)
-      then b eb = next i ∙ ap (λ (c : Bool). pick c (some i) (bestOf table line col i)) (ap (takesOf (tokenAt table i) line col) (sym (f .reaches)) ∙ sym eb)
+      then : (c : Bool) → c ≡ takesOf (tokenAt table i) line col least → bestOf table line col (i + 1) ≡ pick c (some i) (bestOf table line col i)
+      then c ec = next i ∙ ap (λ (d : Bool). pick d (some i) (bestOf table line col i)) (ap (takesOf (tokenAt table i) line col) (sym (f .reaches)) ∙ sym ec)
 
       -- t is the token as it was read
-      pub takes : true ≡ takesOf (tokenAt table i) line col least → (t : Token) → t ≡ tokenAt table i → Scanned all (Found.At i) (t .«dst_col») (i + 1)
+      pub takes : true ≡ takesOf (tokenAt table i) line col least → (t : Token) → t ≡ tokenAt table i → Scanned to i (t .«dst_col») (i + 1)
       takes e t et =
           let o = then true e in
-          record { counted = f .counted; within = omega arith; found = sym (ap foundOf o); reaches = ap (λ (u : Token). u .«dst_col») et ∙ sym (ap (leastOf table) o) }
+          record { within = omega arith; found = sym (ap indexOf o); reaches = ap (λ (u : Token). u .«dst_col») et ∙ sym (ap (leastOf table) o) }
 
-      pub leaves : false ≡ takesOf (tokenAt table i) line col least → Scanned all best least (i + 1)
+      pub leaves : false ≡ takesOf (tokenAt table i) line col least → Scanned to best least (i + 1)
       leaves e =
           let o = then false e in
-          record { counted = f .counted; within = omega arith; found = f .found ∙ sym (ap foundOf o); reaches = f .reaches ∙ sym (ap (leastOf table) o) }
+          record { within = omega arith; found = f .found ∙ sym (ap indexOf o); reaches = f .reaches ∙ sym (ap (leastOf table) o) }
+
+  -- of the whole table, as an answer
+  module _ (good : badTable (length table) ≡ false) (n : ℕ) (en : n ≡ places (length table)) where
+    module _ (best : ℕ) (eb : best ≡ indexOf (bestOf table line col n)) where
+      all : bestOf table line col n ≡ lookupOf table line col
+      all = ap (bestOf table line col) en
+
+      pub is-nothing : best ≡ 4294967295 → Found.Nothing ≡ foundOf (lookupOf table line col)
+      is-nothing e =
+          let b : Between table n n = record { good = good; rises = omega arith; within = omega (arith, en) } in
+          sym (ap foundOf (sym all ∙ none-index (bestOf table line col n) (index-small n n b) (sym eb ∙ e)))
+
+      pub is-at : (best ≡ 4294967295 → ⊥) → Found.At best ≡ foundOf (lookupOf table line col)
+      is-at ne = sym (ap foundOf (sym all ∙ some-index (bestOf table line col n) best eb ne))

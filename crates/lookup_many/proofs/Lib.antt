@@ -1,0 +1,4 @@
+pub mod Blocks
+pub mod Pairs
+pub mod Tests
+pub mod Whole

@@ -58,10 +58,11 @@ fn block_of(table: &[u32], from: usize, to: usize) -> Block
         }
         i += 1;
     }
+    let latest = last as u32;
     Block {
         least,
         most,
-        last: last as u32,
+        last: latest,
     }
 }
 

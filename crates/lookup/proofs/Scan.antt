@@ -92,7 +92,6 @@ module _ (table : List ℕ) (line col : ℕ) where
 
   -- found is what was found before `from`
   module _ (from to found : ℕ) (b : Between table from to) (ef : found ≡ indexOf (bestOf table line col from)) where
-
     pub found-inside : (found ≡ 4294967295 → ⊥) → found < places (length table)
     found-inside ne = omega (arith, among-first table line col from found (some-index (bestOf table line col from) found ef ne), b .rises, b .within)
 

@@ -89,8 +89,8 @@ module _ (table : List ℕ) (from to : ℕ) where
             at = ep;
             lowest = lower;
             highest = λ j l g.
-              below-more (λ (k : ℕ). from ≤ k → (placeAt table k < p) ⊎ ((placeAt table k ≡ p) × (k ≤ i))) i (λ k a b. higher m k b a (s .highest k b a))
-              (λ _. inr (sym ep, omega arith)) j g l;
+                below-more (λ (k : ℕ). from ≤ k → (placeAt table k < p) ⊎ ((placeAt table k ≡ p) × (k ≤ i))) i (λ k a b. higher m k b a (s .highest k b a))
+                (λ _. inr (sym ep, omega arith)) j g l;
           }
 
       pub leaves : p < most → Spanned least′ most last (i + 1)
@@ -102,8 +102,8 @@ module _ (table : List ℕ) (from to : ℕ) where
             at = s .at;
             lowest = lower;
             highest = λ j l g.
-              below-more (λ (k : ℕ). from ≤ k → (placeAt table k < most) ⊎ ((placeAt table k ≡ most) × (k ≤ last))) i (λ k a b. s .highest k b a)
-              (λ _. inl (omega (arith, ep))) j g l;
+                below-more (λ (k : ℕ). from ≤ k → (placeAt table k < most) ⊎ ((placeAt table k ≡ most) × (k ≤ last))) i (λ k a b. s .highest k b a)
+                (λ _. inl (omega (arith, ep))) j g l;
           }
 
 -- ---- what a position takes from it; found is what was found before

@@ -12,7 +12,7 @@ use borrow.Author.Tests.{eq-eqb, ne-eqb, ltb-true, ltb-false}
 use Rattle.code.specs.Code.{codeOf}
 use Rattle.code.specs.declared.Code.{Code}
 use Rattle.token.specs.Table.{places, badTable}
-use Rattle.lookup.specs.Lookup.{Looks, lookupOf, foundOf, foundNumber}
+use Rattle.lookup.specs.Lookup.{Looks, lookupOf, foundOf, foundCode, foundNumber}
 use Rattle.lookup.specs.declared.Found.{Found}
 use Rattle.lookup.proofs.Best as best
 use Rattle.lookup_many.specs.Many.{pairs, lineOf, colOf, manyTo, Says, filled, LooksMany}
@@ -37,11 +37,11 @@ module _ (table positions found : List ℕ) (r : Code) (er : r ≡ manyTo table 
         record {
           says = er;
           each = λ k l.
-            record {
-              found = foundOf (lookupOf table (lineOf positions k) (colOf positions k));
-              looks = best.looks table (lineOf positions k) (colOf positions k) (ready .0) (lookupOf table (lineOf positions k) (colOf positions k)) refl;
-              says = h .each k (omega (arith, all));
-            };
+              record {
+                found = foundOf (lookupOf table (lineOf positions k) (colOf positions k));
+                looks = best.looks table (lineOf positions k) (colOf positions k) (ready .0) (lookupOf table (lineOf positions k) (colOf positions k)) refl;
+                says = h .each k (omega (arith, all));
+              };
           kept = rw all (h .kept);
           sized = h .sized;
         }
@@ -83,8 +83,16 @@ module _ (table positions found : List ℕ) where
     pub one-answer : (r ≡ s) × (x ≡ y)
     one-answer = (same-code, ext-getD 0 x y (a .sized ∙ sym (b .sized)) (λ k h. place k))
 
-  -- each place holds what a lookup of its pair says
-  pub one-by-one : (r : Code) (x : List ℕ) → LooksMany table positions found r x
-      → (k : ℕ) → k < filled r positions → (f : Found) → Looks table (lineOf positions k) (colOf positions k) f → getD x k 0 ≡ foundNumber f
-  one-by-one r x a k h f l =
-      one-says table (lineOf positions k) (colOf positions k) (getD x k 0) (foundNumber f) (a .each k h) (record { found = f; looks = l; says = refl })
+  -- where it is done, a lookup of a pair is done too, and its place holds the number
+  module _ (r : Code) (x : List ℕ) (a : LooksMany table positions found r x) (done : codeOf r ≡ 0) (k : ℕ) (h : k < pairs (length positions)) where
+    finds : (f : Found) → Looks table (lineOf positions k) (colOf positions k) f → foundCode f ≡ 0
+    finds (Found.At i) l = refl
+    finds Found.Nothing l = refl
+    finds Found.BadTable l = (let e = sym l ∙ ready table positions found r (a .says) done .0 in let z : _≡_ {A = ℕ} 0 1 = cc in absurd (omega arith))
+
+    pub one-by-one : (f : Found) → Looks table (lineOf positions k) (colOf positions k) f → (foundCode f ≡ 0) × (foundNumber f ≡ getD x k 0)
+    one-by-one f l = (
+      finds f l,
+      one-says table (lineOf positions k) (colOf positions k) (foundNumber f) (getD x k 0) (record { found = f; looks = l; says = refl })
+          (a .each k (omega (arith, all table positions found r (a .says) done))),
+    )

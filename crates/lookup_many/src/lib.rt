@@ -122,9 +122,9 @@ fn none_yet(table: &[u32], positions: &[u32], found: &mut [u32])
     requires { ⌜ pairs (length (now positions)) ≤ length (now found) ⌝ }
     ensures { λ _. ⌜ Held (now (table .entry)) (now (positions .entry)) 0 (now (found .entry)) (now (found .exit)) ⌝ }
 {
-    let count = positions.len() / 2;
+    let places = positions.len() / 2;
     let mut k: usize = 0;
-    while k < count {
+    while k < places {
         found[k] = NONE;
         k += 1;
     }
@@ -140,9 +140,10 @@ fn code_for(table: &[u32], positions: &[u32], room: usize) -> Code
     if positions.len() % 2 == 1 {
         return Code::OddList;
     }
-    let count = positions.len() / 2;
-    if room < count {
-        return Code::NoRoom(count as u64);
+    let asked = positions.len() / 2;
+    if room < asked {
+        let needed = asked as u64;
+        return Code::NoRoom(needed);
     }
     Code::Done
 }

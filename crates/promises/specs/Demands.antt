@@ -7,7 +7,8 @@
 -- Demand 3: what is written reads back.
 use mathlib.Core.Path.{_≡_, sym, _∙_, ap}
 use mathlib.Core.List.{List}
-use Prim.Native.Nat.{ℕ}
+use Prim.Native.Nat.{ℕ, _<_}
+use lib.ListN.{length, getD}
 use Rattle.token.specs.declared.Token.{Token}
 use Rattle.token.specs.declared.TokenChunk.{TokenChunk}
 use Rattle.value.specs.declared.Mode.{Mode}
@@ -33,6 +34,8 @@ use Rattle.records.specs.Records.{TranslatesRecords, answerOf}
 use Rattle.records.proofs.Laws as records
 use Rattle.lookup.specs.Lookup.{Looks}
 use Rattle.lookup.proofs.Best as lookup
+use Rattle.lookup_many.specs.Many.{pairs, lineOf, colOf, LooksMany}
+use Rattle.lookup_many.proofs.Whole as many
 use Rattle.names.specs.Names.{NameList, placeOf}
 use Rattle.compose.specs.Compose.{Maps, Composes}
 use Rattle.compose.proofs.Unique as compose
@@ -90,6 +93,21 @@ one-translate-tokens line source name ts r s x y a b = records.one-answer a b
 pub one-lookup : (table : List ℕ) (line col : ℕ) (r s : Answer) → Goes (Looks table line col) foundOut r → Goes (Looks table line col) foundOut s → r ≡ s
 one-lookup table line col r s a b =
     a .says ∙ ap foundOut (lookup.one-answer table line col (a .inner) (b .inner) (a .holds) (b .holds)) ∙ sym (b .says)
+
+-- pgk_lookup_many
+pub one-lookup-many : (table positions found : List ℕ) (r s : Answer) (x y : List ℕ)
+    → Goes (λ c. LooksMany table positions found c x) answerOf r → Goes (λ c. LooksMany table positions found c y) answerOf s → (r ≡ s) × (x ≡ y)
+one-lookup-many table positions found r s x y a b =
+    let e = many.one-answer table positions found (a .inner) (b .inner) x y (a .holds) (b .holds) in
+    (a .says ∙ ap answerOf (e .0) ∙ sym (b .says), e .1)
+
+-- where it is done, so is pgk_lookup for each pair, and the pair's place holds the number that pgk_lookup answers
+pub one-by-one : (table positions found : List ℕ) (r : Answer) (x : List ℕ) → Goes (λ c. LooksMany table positions found c x) answerOf r → r .code ≡ 0
+    → (k : ℕ) → k < pairs (length positions) → (s : Answer) → Goes (Looks table (lineOf positions k) (colOf positions k)) foundOut s
+    → (s .code ≡ 0) × (s .number ≡ getD x k 0)
+one-by-one table positions found r x a d k h s b =
+    let e = many.one-by-one table positions found (a .inner) x (a .holds) (ap (λ (o : Answer). o .code) (sym (a .says)) ∙ d) k h (b .inner) (b .holds) in
+    (ap (λ (o : Answer). o .code) (b .says) ∙ e .0, ap (λ (o : Answer). o .number) (b .says) ∙ e .1)
 
 -- pgk_compose
 pub one-compose : (m : Maps) (result added : List ℕ) (r s : ComposedOut) (x y v w : List ℕ)

@@ -43,13 +43,13 @@ loop-less c = omega arith
 loop-again : tie.Need-loop-again Inv-loop μ-loop
 loop-again c = ⊎-elim
     (λ v. ⊎-elim
-      (λ w. rw (w .1, w .2) (takes _ _ _ _ _ _ _ (c .before .before .before .before .loop .inv) (c .before .before .before .loop-test .taken) _ (c .before .before .place-at2 .ensures) _ (omega (arith, v .0 .taken, v .1)) (omega (arith, v .1)) (w .0 .taken)))
-      (λ w. rw (w .1, w .2) (leaves _ _ _ _ _ _ _ (c .before .before .before .before .loop .inv) (c .before .before .before .loop-test .taken) _ (c .before .before .place-at2 .ensures) _ (omega (arith, v .0 .taken, v .1)) (omega (arith, v .1)) (w .0 .left)))
-      (c .if2 .came))
+    (λ w. rw (w .1, w .2) (takes _ _ _ _ _ _ _ (c .before .before .before .before .loop .inv) (c .before .before .before .loop-test .taken) _ (c .before .before .place-at2 .ensures) _ (omega (arith, v .0 .taken, v .1)) (omega (arith, v .1)) (w .0 .taken)))
+    (λ w. rw (w .1, w .2) (leaves _ _ _ _ _ _ _ (c .before .before .before .before .loop .inv) (c .before .before .before .loop-test .taken) _ (c .before .before .place-at2 .ensures) _ (omega (arith, v .0 .taken, v .1)) (omega (arith, v .1)) (w .0 .left)))
+    (c .if2 .came))
     (λ v. ⊎-elim
-      (λ w. rw (w .1, w .2) (takes _ _ _ _ _ _ _ (c .before .before .before .before .loop .inv) (c .before .before .before .loop-test .taken) _ (c .before .before .place-at2 .ensures) _ (omega (arith, v .1)) (omega (arith, v .0 .left, v .1)) (w .0 .taken)))
-      (λ w. rw (w .1, w .2) (leaves _ _ _ _ _ _ _ (c .before .before .before .before .loop .inv) (c .before .before .before .loop-test .taken) _ (c .before .before .place-at2 .ensures) _ (omega (arith, v .1)) (omega (arith, v .0 .left, v .1)) (w .0 .left)))
-      (c .if2 .came))
+    (λ w. rw (w .1, w .2) (takes _ _ _ _ _ _ _ (c .before .before .before .before .loop .inv) (c .before .before .before .loop-test .taken) _ (c .before .before .place-at2 .ensures) _ (omega (arith, v .1)) (omega (arith, v .0 .left, v .1)) (w .0 .taken)))
+    (λ w. rw (w .1, w .2) (leaves _ _ _ _ _ _ _ (c .before .before .before .before .loop .inv) (c .before .before .before .loop-test .taken) _ (c .before .before .place-at2 .ensures) _ (omega (arith, v .1)) (omega (arith, v .0 .left, v .1)) (w .0 .left)))
+    (c .if2 .came))
     (c .before .if1 .came)
 
 -- src/lib.rt:64:15

@@ -11,10 +11,10 @@ use Rattle.lookup_many.proofs.none_yet.Reads as reads
 use Rattle.lookup_many.proofs.none_yet.Lts as lts
 
 abbrev Inv-loop : tie.InvT-loop
-Inv-loop table positions found₀ count k₀ found k = Partly (foundAt table positions 0) (λ j. getD found₀ j 0) count k found₀ found
+Inv-loop table positions found₀ places k₀ found k = Partly (foundAt table positions 0) (λ j. getD found₀ j 0) places k found₀ found
 
 abbrev μ-loop : tie.MeasureT-loop
-μ-loop table positions found₀ count k₀ found k = count - k
+μ-loop table positions found₀ places k₀ found k = places - k
 
 -- src/lib.rt:126:5
 loop-holds : tie.Need-loop-holds Inv-loop μ-loop

@@ -29,6 +29,15 @@ pub fn lookup(table: &[u32], line: u32, col: u32) -> Answer {
     unsafe { pgk_lookup(table.as_ptr(), table.len(), line, col) }
 }
 
+unsafe extern "C" {
+    fn pgk_lookup_many(table: *const u32, numbers: usize, positions: *const u32, asked: usize, found: *mut u32, room: usize) -> Answer;
+}
+
+pub fn lookup_many(table: &[u32], positions: &[u32], found: &mut [u32]) -> Answer {
+    let (p, f) = (positions.as_ptr(), found.as_mut_ptr());
+    unsafe { pgk_lookup_many(table.as_ptr(), table.len(), p, positions.len(), f, found.len()) }
+}
+
 pub fn compose(outer: &[u32], outer_names: &Names, inner: &[u32], inner_names: &Names, result: &mut [u32], added: &mut [u32]) -> Composed {
     let names = |names: &Names| (names.text.as_ptr(), names.text.len(), names.ends.as_ptr(), names.ends.len());
     let ((on, on_len, oe, oe_len), (inn, inn_len, ie, ie_len)) = (names(outer_names), names(inner_names));

@@ -299,6 +299,99 @@ fn lookup(seconds: f64) {
     }
 }
 
+/// The tokens on one line, each some columns past the one before it.
+fn on_one_line(tokens: &[Token]) -> Vec<Token> {
+    let mut r = Random(9);
+    let mut col = 0;
+    let mut moved = |t: &Token| {
+        col += 1 + r.below(8) as u32;
+        Token::new(0, col, t.get_src_line(), t.get_src_col(), t.get_source_id(), t.get_name_id())
+    };
+    tokens.iter().map(&mut moved).collect()
+}
+
+fn shuffled(mut tokens: Vec<Token>) -> Vec<Token> {
+    let mut r = Random(3);
+    for i in (1..tokens.len()).rev() {
+        tokens.swap(i, r.below(i as u64 + 1) as usize);
+    }
+    tokens
+}
+
+/// Five positions, each eight times.
+fn log_of_five(tokens: &[Token]) -> Vec<(u32, u32)> {
+    let five = log_of(tokens, 5);
+    (0..40).map(|i| five[i % 5]).collect()
+}
+
+/// A log in one call. The crate makes no table of lines where lines fall.
+fn many_of(seconds: f64, name: &str, tokens: &[Token], log: &[(u32, u32)]) {
+    let table = table_of(tokens);
+    let positions: Vec<u32> = log.iter().flat_map(|&(line, col)| [line, col]).collect();
+    let mut found = vec![0u32; log.len()];
+    assert!(library::lookup_many(&table, &positions, &mut found).code == 0);
+    let same = |(&(line, col), &index): (&(u32, u32), &u32)| library::lookup(&table, line, col).number == u64::from(index);
+    assert!(log.iter().zip(&found).all(same), "{name}: not what one lookup after another says");
+    let sorted = tokens.windows(2).all(|w| w[0].get_dst_line() <= w[1].get_dst_line());
+    let map = sorted.then(|| map_of(tokens, &Names::default(), 10));
+    let before = map.as_ref().map(|map| map.generate_lookup_table());
+    let ours = || assert!(black_box(library::lookup_many(&table, &positions, &mut found)).code == 0);
+    let one_by_one = || {
+        for &(line, col) in log {
+            assert!(black_box(library::lookup(&table, line, col)).code == 0);
+        }
+    };
+    let mut things = vec![plain(ours), plain(one_by_one)];
+    if let (Some(map), Some(before)) = (&map, &before) {
+        things.push(plain(|| {
+            let lines = map.generate_lookup_table();
+            for &(line, col) in log {
+                assert!(black_box(map.lookup_token(&lines, line, col)).is_some());
+            }
+        }));
+        things.push(plain(|| {
+            for &(line, col) in log {
+                assert!(black_box(map.lookup_token(before, line, col)).is_some());
+            }
+        }));
+    }
+    let r = timed(seconds, things);
+    println!(
+        "{:<10} {:>8} {:>10} {:>18} {:>20} {:>14} {:>12.1} {:>6}",
+        name,
+        tokens.len(),
+        log.len(),
+        shown(r.ratios[0]),
+        r.ratios.get(1).map_or("-".into(), |&ratio| shown(ratio)),
+        r.ratios.get(2).map_or("-".into(), |ratio| format!("{:.1}", ratio.0)),
+        r.medians[0] * 1e6,
+        r.runs
+    );
+}
+
+fn many(seconds: f64) {
+    println!("\nlookup, many positions in one call: to one call for each; to the crate with and without the making of its table of lines");
+    println!(
+        "{:<10} {:>8} {:>10} {:>18} {:>20} {:>14} {:>12} {:>6}",
+        "table", "tokens", "positions", "one by one", "made each time", "made before", "us/call", "runs"
+    );
+    for count in [1_000, 100_000, LARGE] {
+        let by_line = made_tokens(Kind::Mixed, count);
+        let (one_line, mixed) = (on_one_line(&by_line), shuffled(by_line.clone()));
+        let rows = [
+            ("by line", &by_line, log_of(&by_line, 40)),
+            ("one line", &one_line, log_of(&one_line, 40)),
+            ("shuffled", &mixed, log_of(&mixed, 40)),
+            ("repeats", &by_line, log_of_five(&by_line)),
+            ("by line", &by_line, log_of(&by_line, 2)),
+            ("by line", &by_line, log_of(&by_line, 1)),
+        ];
+        for (name, tokens, log) in &rows {
+            many_of(seconds, name, tokens, log);
+        }
+    }
+}
+
 fn some_names(prefix: &str, count: usize) -> Names {
     let mut names = Names::default();
     for i in 0..count {
@@ -472,6 +565,7 @@ fn run() -> Result<(), String> {
     }
     if asked("lookup") {
         lookup(seconds);
+        many(seconds);
     }
     if asked("compose") {
         compose(seconds);

@@ -83,9 +83,9 @@ thread_local! {
     static CODES: RefCell<BTreeMap<(&'static str, u64), u64>> = const { RefCell::new(BTreeMap::new()) };
 }
 
-/// The codes that each part can give; for what checked mode alone has, the fields; for the premises, no and yes. A decode's TooBig
-/// takes a text of 4 GiB, which only `far` has.
-const DUE: [(&str, &[u64]); 14] = [
+/// The codes that each part can give; for what checked mode alone has, the fields; for the premises, no and yes; for the positions of
+/// many that the crate judges too, none and a token. A decode's TooBig takes a text of 4 GiB, which only `far` has.
+const DUE: [(&str, &[u64]); 16] = [
     ("decode, lenient", &[0, 1, 2, 3, 4, 5, 7]),
     ("decode, checked", &[0, 1, 2, 3, 4, 5, 6, 7]),
     ("checked, a wide value", &[0, 1, 2, 3, 4]),
@@ -99,6 +99,8 @@ const DUE: [(&str, &[u64]); 14] = [
     ("translate", &[0, 11, 12]),
     ("translate, records", &[0, 12]),
     ("lookup", &[0, 11]),
+    ("many", &[0, 8, 11, 17]),
+    ("many, by the crate", &[0, 1]),
     ("compose", &[0, 7, 8, 11, 13, 14]),
 ];
 

@@ -9,6 +9,7 @@ mod exact;
 mod far;
 mod limits;
 mod looking;
+mod many;
 mod model;
 mod ours;
 mod record;
@@ -50,8 +51,8 @@ fn args() -> Args {
     a
 }
 
-const PARTS: [&str; 10] =
-    ["differences", "translate", "lookup", "compose", "write", "decode", "exact", "limits", "corpus", "far"];
+const PARTS: [&str; 11] =
+    ["differences", "translate", "lookup", "many", "compose", "write", "decode", "exact", "limits", "corpus", "far"];
 
 fn usage() -> ! {
     eprintln!(
@@ -77,10 +78,11 @@ fn main() {
     }
     let mut tally = Tally::default();
     tally.stop = a.stop;
-    let parts: [(&str, fn(&mut Tally, u64, usize)); 7] = [
+    let parts: [(&str, fn(&mut Tally, u64, usize)); 8] = [
         ("differences", differences::run),
         ("translate", translating::run),
         ("lookup", looking::run),
+        ("many", many::run),
         ("compose", composing::run),
         ("write", writing::run),
         ("decode", decoding::run),

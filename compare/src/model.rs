@@ -75,6 +75,7 @@ pub const BAD_TABLE: u64 = 11;
 pub const TOO_BIG: u64 = 12;
 pub const MORE_THAN_ONE_SOURCE: u64 = 13;
 pub const BAD_NAMES: u64 = 14;
+pub const ODD_LIST: u64 = 17;
 
 /// A code and the number with it.
 #[repr(C)]
@@ -478,6 +479,23 @@ pub fn lookup_in_table(table: &[u32], line: u32, col: u32) -> Answer {
         Some(i) => answer(DONE, i as u64),
         None => answer(DONE, u64::from(NONE)),
     }
+}
+
+/// Many positions, line and column in turn: the answer, and the numbers that the list to fill begins with then.
+pub fn lookup_many(table: &[u32], positions: &[u32], room: usize) -> (Answer, Vec<u32>) {
+    let pairs = positions.len() / 2;
+    if bad_table(table.len()) {
+        return (answer(BAD_TABLE, 0), vec![]);
+    }
+    if positions.len() != 2 * pairs {
+        return (answer(ODD_LIST, 0), vec![]);
+    }
+    if pairs > room {
+        return (answer(NO_ROOM, pairs as u64), vec![]);
+    }
+    let tokens = tokens_of(table);
+    let index = |pair: &[u32]| lookup(&tokens, pair[0], pair[1]).map_or(NONE, |i| i as u32);
+    (answer(DONE, 0), positions.chunks(2).map(index).collect())
 }
 
 // ---------------------------------------------------------------- names and composing

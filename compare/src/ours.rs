@@ -19,6 +19,7 @@ unsafe extern "C" {
     fn pgk_translate(table: *mut u32, n: usize, line: u32, source: u32, name: u32) -> Answer;
     fn pgk_translate_tokens(tokens: *mut Token, n: usize, line: u32, source: u32, name: u32) -> Answer;
     fn pgk_lookup(table: *const u32, n: usize, line: u32, col: u32) -> Answer;
+    fn pgk_lookup_many(table: *const u32, n: usize, positions: *const u32, m: usize, found: *mut u32, k: usize) -> Answer;
     fn pgk_table_size(text: *const u8, n: usize) -> usize;
     fn pgk_meets_premises(table: *const u32, n: usize, sources: u32, names: u32) -> u64;
     fn pgk_meets_checked_premises(table: *const u32, n: usize, sources: u32, names: u32) -> u64;
@@ -139,6 +140,13 @@ pub fn lookup(table: &[u32], line: u32, col: u32) -> Answer {
     answer
 }
 
+pub fn lookup_many(table: &[u32], positions: &[u32], found: &mut Lent) -> Answer {
+    let (t, p) = (table.to_vec(), positions.to_vec());
+    let answer = unsafe { raw::lookup_many(t.as_ptr(), t.len(), &p, found) };
+    assert!(t == table && p == positions, "what was lent for reading changed");
+    answer
+}
+
 pub fn table_size(text: &[u8]) -> usize {
     let lent = text.to_vec();
     let size = unsafe { pgk_table_size(lent.as_ptr(), lent.len()) };
@@ -170,6 +178,10 @@ pub mod raw {
 
     pub unsafe fn lookup(table: *const u32, numbers: usize, line: u32, col: u32) -> Answer {
         unsafe { pgk_lookup(table, numbers, line, col) }
+    }
+
+    pub unsafe fn lookup_many(table: *const u32, numbers: usize, positions: &[u32], found: &mut Lent) -> Answer {
+        unsafe { pgk_lookup_many(table, numbers, positions.as_ptr(), positions.len(), found.ptr(), found.len) }
     }
 
     pub unsafe fn meets_premises(mode: Mode, table: *const u32, numbers: usize, sources: u32, names: u32) -> u64 {

@@ -11,6 +11,7 @@ use crate::cases::{Case, EDGES, Random, with_segments};
 use crate::composing::{self, Pair};
 use crate::decoding::{self, Text};
 use crate::looking::{self, Ask};
+use crate::many::{self, Asks};
 use crate::model::{NONE, Names, Six, Token, TokenChunk, WIDTH, bad_table, is_delimiter, sixes, table_of, tokens_of};
 use crate::theirs::{BUILDS, RELEASE};
 use crate::translating::Move;
@@ -495,6 +496,63 @@ fn compose(file: &mut File, seed: u64) {
     });
 }
 
+// ---------------------------------------------------------------- many positions
+
+/// Those of the positions where the crate's lookup has no way to differ from ours.
+fn put_asks(file: &mut File, case: &Asks) {
+    let tokens = tokens_of(&case.table());
+    if tokens.iter().any(|t| t.dst_line > looking::LINES) {
+        return;
+    }
+    let pairs = case.positions.chunks(2).map(|pair| (pair[0], pair[1]));
+    let asked: Vec<(u32, u32)> = pairs.filter(|&(line, col)| looking::class_of(&tokens, line, col).is_none()).collect();
+    if asked.is_empty() != case.positions.is_empty() || 3 * asked.len() > NUMBERS {
+        return;
+    }
+    let Some(looked) = (RELEASE.look)(&tokens, &asked) else { return };
+    let mut second: Vec<u32> = asked.iter().flat_map(|&(line, col)| [line, col]).collect();
+    second.extend(looked.iter().map(|(found, _)| found.map_or(NONE, |[_, _, src_line, ..]| src_line)));
+    file.record('m', &table_of(&tokens), numbers_text(&second).as_bytes());
+}
+
+fn lookup_many(file: &mut File, seed: u64) {
+    let mut random = Random::new(seed, "recorded lists of asks");
+    file.group("many: small lists");
+    for tokens in 0..=3 {
+        many::all_lists(tokens, &mut |case| {
+            if tokens < 3 || random.one_in(8) {
+                put_asks(file, &case);
+            }
+            true
+        });
+    }
+    // The crate's columns are any numbers, its lines small ones.
+    file.group("many: columns at the edges");
+    for places in [[(0, NONE), (1, 0)], [(0, NONE), (2, 0)], [(0, 0), (1, NONE)], [(1, NONE - 1), (1, NONE)]] {
+        let asked: Vec<(u32, u32)> = (0..3).flat_map(|line| [0, 1, NONE - 1, NONE].map(|col| (line, col))).collect();
+        for count in 0..=2 {
+            put_asks(file, &Asks::of(places[..count].to_vec(), &asked));
+        }
+    }
+    file.group("many: at a block's end");
+    for tokens in 1..=3 {
+        many::across(tokens, &mut |case| {
+            if random.one_in(9usize.pow(tokens as u32) / 3) {
+                put_asks(file, &case);
+            }
+            true
+        });
+    }
+    file.group("many: lists");
+    for count in [0, 1, 9, 30, 63, 64, 65, 66, 67, 68] {
+        for shape in 0..many::SHAPES {
+            let places = many::shaped(&mut random, shape, count);
+            let asked = many::some_around(&mut random, &places);
+            put_asks(file, &Asks::of(places, &asked));
+        }
+    }
+}
+
 /// Writes stdin and stdout of crates/replay_answers.
 pub fn run(seed: u64) {
     let mut file = File::default();
@@ -503,5 +561,6 @@ pub fn run(seed: u64) {
     translate(&mut file, seed);
     lookup(&mut file, seed);
     compose(&mut file, seed);
+    lookup_many(&mut file, seed);
     file.write(&Path::new("crates").join("replay_answers"));
 }

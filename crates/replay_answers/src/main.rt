@@ -19,6 +19,7 @@ fn agrees(kind: u8, numbers: &mut [u32], text: &[u8]) -> bool {
         b't' => replay_translate::translate_agrees(numbers, text),
         b'l' => replay_translate::lookup_agrees(numbers),
         b'c' => replay_compose::compose_agrees(numbers, text),
+        b'm' => replay_many::many_agrees(numbers, text),
         _ => false,
     }
 }

@@ -182,17 +182,16 @@ impl fmt::Debug for Token {
 }
 
 /// A generated position, as [`lookup_many`](crate::lookup_many) is asked for it. Line and column count from 0, the column in
-/// UTF-16 units. Positions are ordered by line, then column.
+/// UTF-16 units.
 ///
 /// ```
 /// use peghayrick::Position;
 /// // Column 32 of line 3, as JavaScript engines count: from 1.
 /// let stop = Position { line: 3 - 1, col: 32 - 1 };
 /// assert_eq!(stop, Position::new(2, 31));
-/// assert!(stop < Position::new(3, 0));
 /// ```
 #[repr(C)]
-#[derive(Debug, Clone, Copy, Default, PartialEq, Eq, PartialOrd, Ord, Hash)]
+#[derive(Debug, Clone, Copy, Default, PartialEq, Eq, Hash)]
 pub struct Position {
     /// The generated line.
     pub line: u32,

@@ -192,7 +192,7 @@ fn many_in_long_tables() {
         for sorted in [true, false] {
             let mut places: Vec<Position> = (0..count).map(|_| Position::new(below(30), below(40))).collect();
             if sorted {
-                places.sort();
+                places.sort_by_key(|at| (at.line, at.col));
             }
             let tokens: Vec<Token> = places.iter().map(|at| Token::new(at.line, at.col, 0, 0, None, None)).collect();
             let asked: Vec<Position> = (0..32 * 42).map(|k| Position::new(k / 42, k % 42)).chain(places).collect();
@@ -207,11 +207,9 @@ fn many_in_long_tables() {
 #[test]
 fn positions() {
     assert_eq!(Position::default(), Position { line: 0, col: 0 });
-    let mut places = [Position::new(1, 0), Position::new(0, 9), Position::new(0, 10), Position::new(0, 9)];
-    places.sort();
-    assert_eq!(places.map(|at| (at.line, at.col)), [(0, 9), (0, 9), (0, 10), (1, 0)]);
+    let places = [Position::new(1, 0), Position::new(0, 1), Position::new(0, 9), Position { line: 0, col: 9 }];
     assert_eq!(places.into_iter().collect::<HashSet<_>>().len(), 3);
-    assert_eq!(format!("{:?}", places[0]), "Position { line: 0, col: 9 }");
+    assert_eq!(format!("{:?}", places[1]), "Position { line: 0, col: 1 }");
 }
 
 #[test]

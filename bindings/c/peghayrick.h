@@ -223,7 +223,7 @@ pgk_answer pgk_lookup(const uint32_t *table, size_t table_len, uint32_t line, ui
 /* The tokens at many generated positions. positions has two numbers for each, its line first and then its column; found
  * takes one for each, in the same order: the index that pgk_lookup gives, or 4294967295 (PGK_NONE) if there is none. So it
  * equals one pgk_lookup after another. The positions may be in any order and may come again; no positions are done.
- * A token found may have no source: then there is no source position to show.
+ * A token found is at table + PGK_WIDTH * (size_t)found[i]. It may have no source: then there is no source position to show.
  * positions_len counts numbers, so two a position, and found_len places. Refusals, in this order:
  *   PGK_BAD_TABLE
  *   PGK_ODD_LIST   positions_len is odd

@@ -53,10 +53,10 @@
 //!
 //! # Cost
 //! A lookup reads the line of every token, 0.4 to 1.2 ns each. [`lookup_many`] reads the table once for all of its positions.
-//! [`compose`] does one lookup for each outer token with
-//! a source and a search of the inner names for each outer name that it takes, so its time grows with the product of
-//! both tables: 8,000 over 8,000 tokens take 63 times the time of the crate oxc_sourcemap, and 94,520 over 63,264
-//! tokens of two real maps took 16 s. Compose where the bundle is built and not while a run waits.
+//! [`compose`] does one lookup for each outer token with a source and a search of the inner names for each outer name that it
+//! takes, so its time grows with the product of both tables: 8,000 over 8,000 tokens take 63 times the time of the crate
+//! oxc_sourcemap, and 94,520 over 63,264 tokens of two real maps took 16 s. Compose where the bundle is built and not while a run
+//! waits.
 //!
 //! # Refusals
 //! Every input is answered, a value or a [`Refusal`]. A refused decode keeps the tokens before the refused segment,

@@ -76,7 +76,7 @@ pub enum Refusal {
         /// Where the decode stopped; `None` from [`compose`](crate::compose).
         at: Option<Stop>,
     },
-    /// 8: the output, the list of added names or that of what is found is too short.
+    /// 8: the output, the list of added names or the list of found indices is too short.
     NoRoom {
         /// How many places are needed.
         needed: u64,

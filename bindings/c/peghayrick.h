@@ -1,4 +1,4 @@
-/* Peghayrick 0.6.0: the mapping core of source maps, for C99 and later and C++11 and later.
+/* Peghayrick 0.7.0: the mapping core of source maps, for C99 and later and C++11 and later.
  *
  * Link with libpeghayrick.a (x86-64 Linux). The archive needs one symbol from outside, memset.
  *
@@ -7,7 +7,8 @@
  *   does, so lend a dummy where there may be nothing (an empty std::vector, malloc of 0 bytes):
  *       uint32_t dummy;
  *       pgk_lookup(count ? table : &dummy, PGK_WIDTH * count, line, col)
- * - It has its type's alignment: four bytes for a table, eight for the ends of names, one for text.
+ * - It has its type's alignment: four bytes for a table and every other list of uint32_t, eight for the ends of
+ *   names, one for text.
  * - Its length is true. A length counts the things that the pointer points to, not bytes.
  * - Memory that is written overlaps no other memory lent in the same call.
  * Of values, nothing: every text, table, chunk, count and id is answered, however damaged.
@@ -38,7 +39,8 @@
  * the tokens before the refused segment; every other refusal writes nothing. Look at the code first: the
  * rest of a refused answer is not a result.
  *
- * Order of use: pgk_table_size, pgk_decode, pgk_lookup; bindings/examples/stop.c does it.
+ * Order of use: pgk_table_size, pgk_decode, then pgk_lookup or, for many positions, pgk_lookup_many;
+ * bindings/examples/stop.c does it.
  *
  * docs/RULES.md has the exact rules, docs/TRUST.md what of this is proved, what is tested and what is trusted.
  */
@@ -53,10 +55,10 @@ extern "C" {
 #endif
 
 /* The version of this header: major * 1000000 + minor * 1000 + patch. pgk_version() has that of the archive. */
-#define PGK_VERSION 6000u
-#define PGK_VERSION_TEXT "0.6.0"
+#define PGK_VERSION 7000u
+#define PGK_VERSION_TEXT "0.7.0"
 
-/* As an id or a segment: none. */
+/* As an id, a segment or the index of a token that was looked up: none. */
 #define PGK_NONE 4294967295u
 
 /* How many numbers a token has in a table. */
@@ -78,6 +80,7 @@ extern "C" {
 #define PGK_TOO_BIG 12u              /* index of the first such token, in decoding too */
 #define PGK_MORE_THAN_ONE_SOURCE 13u
 #define PGK_BAD_NAMES 14u
+#define PGK_ODD_LIST 17u             /* the list of positions has an odd length */
 
 /* segment: where the token's segment begins, a byte of the text that it was decoded from, or PGK_NONE. */
 typedef struct { uint32_t dst_line, dst_col, src_line, src_col, source_id, name_id, segment; } pgk_token;
@@ -126,9 +129,10 @@ static inline const char *pgk_words(uint64_t code) {
         "a line or an id would become too large, or a segment begins at byte 4294967295 or later: to translate, use smaller offsets or join fewer maps (nothing was moved); to decode, build the bundle in parts, each with its own map",
         "the outer map has more than one source: compose only a map of a single input with that input's map",
         "a name list is broken: its ends must not fall, the last must lie within the text, and at most 2147483647 names are taken",
+        "the list of positions has an odd length: hand in two numbers for each position, its line first and then its column",
         "the code is unknown: link the libpeghayrick.a that belongs to this version"
     };
-    return words[code < 15u ? code : 15u];
+    return words[code < 15u ? code : code == PGK_ODD_LIST ? 15u : 16u];
 }
 
 /* The chunk that writes a whole table of count tokens, or its first count tokens. */
@@ -215,6 +219,20 @@ pgk_answer pgk_translate_tokens(pgk_token *tokens, size_t count, uint32_t line_o
  * The table may be in any order. Hand in the written part only, PGK_WIDTH numbers a token: places past it would be
  * found too. Cost: each lookup reads the line of every token, 0.4 to 1.2 ns each. Refusal: PGK_BAD_TABLE. */
 pgk_answer pgk_lookup(const uint32_t *table, size_t table_len, uint32_t line, uint32_t col);
+
+/* The tokens at many generated positions. positions has two numbers for each, its line first and then its column; found
+ * takes one for each, in the same order: the index that pgk_lookup gives, or 4294967295 (PGK_NONE) if there is none. So it
+ * equals one pgk_lookup after another. The positions may be in any order and may come again; no positions are done.
+ * A token found is at table + PGK_WIDTH * (size_t)found[i]. It may have no source: then there is no source position to show.
+ * positions_len counts numbers, so two a position, and found_len places. Refusals, in this order:
+ *   PGK_BAD_TABLE
+ *   PGK_ODD_LIST   positions_len is odd
+ *   PGK_NO_ROOM    found has fewer places than there are positions; the number says how many are needed
+ * Places past the positions are kept. found must not overlap table or positions; those two are only read.
+ * The table may be in any order. Hand in the written part only, as to pgk_lookup. Cost: the table is read once for all
+ * positions, in blocks of 64 tokens; a block is read again only for a position that lies within it. */
+pgk_answer pgk_lookup_many(const uint32_t *table, size_t table_len, const uint32_t *positions, size_t positions_len,
+    uint32_t *found, size_t found_len);
 
 /* A name list is a text and the end of each name in it; a name begins where the one before it ends.
  *

@@ -490,6 +490,115 @@ static void looking(unsigned rounds) {
     check(ok, "lookup in any table, by the rule");
 }
 
+/* Many lookups by the rule. */
+static pgk_answer found_many(const uint32_t *k, size_t numbers, const uint32_t *asked, size_t n, uint32_t *out, size_t room) {
+    pgk_answer a = { numbers % W ? PGK_BAD_TABLE : n % 2 ? PGK_ODD_LIST : room < n / 2 ? PGK_NO_ROOM : PGK_DONE, 0 };
+    if (a.code == PGK_NO_ROOM) a.number = n / 2;
+    for (size_t i = 0; a.code == PGK_DONE && i < n / 2; i++) out[i] = (uint32_t)found(k, numbers / W, asked[2 * i], asked[2 * i + 1]);
+    return a;
+}
+
+enum { ASKED = 128 };
+
+/* One call in nine placements: this answer, no trace outside, and of what is lent to be written only the places of the positions. */
+static int many_all(const uint32_t *table, size_t numbers, const uint32_t *asked, size_t n, size_t room, pgk_answer want, const uint32_t *out) {
+    int ok = 1;
+    for (place i = FIRST; i < PLACES; i++)
+        for (place j = FIRST; j < PLACES; j++) {
+            uint32_t got[ASKED];
+            for (size_t k = 0; k < room; k++) got[k] = 0x5EED0000u + (uint32_t)k;
+            lent a = lend(pens[0], i, table, 4 * numbers, 0), b = lend(pens[1], (place)((i + j) % PLACES), asked, 4 * n, 0),
+                c = lend(pens[2], j, got, 4 * room, 1);
+            pgk_answer d = pgk_lookup_many((uint32_t *)a.at, numbers, (uint32_t *)b.at, n, (uint32_t *)c.at, room);
+            ok &= back(c, got) & back(a, NULL) & back(b, NULL);
+            size_t filled = want.code == PGK_DONE ? n / 2 : 0;
+            ok &= d.code == want.code && d.number == want.number && memcmp(got, out, 4 * filled) == 0;
+            for (size_t k = filled; k < room; k++) ok &= got[k] == 0x5EED0000u + (uint32_t)k;
+        }
+    return ok;
+}
+
+static void looking_many(unsigned rounds) {
+    /* Two tokens at one position, one before them on the line, and one at the largest position. */
+    static const uint32_t table[4 * W] = { 2, 5, 0, 0, 0, 0, 0, 2, 5, 0, 0, 0, 0, 0, 2, 3, 0, 0, 0, 0, 0, PGK_NONE, PGK_NONE, 0, 0, 0, 0, 0 };
+    static const struct { size_t numbers, n, room; uint32_t asked[8]; pgk_answer want; uint32_t out[4]; const char *what; } rows[] = {
+        { 4 * W, 8, 4, { 2, 5, 2, 4, 2, 2, 0, 5 }, { PGK_DONE, 0 }, { 1, 2, PGK_NONE, PGK_NONE }, "many: the latest, one before it, none, none on the line" },
+        { 4 * W, 8, 9, { 2, 9, 2, 3, 2, 9, 2, 9 }, { PGK_DONE, 0 }, { 1, 2, 1, 1 }, "many: a position that comes again, and places past the positions" },
+        { 4 * W, 6, 3, { PGK_NONE, PGK_NONE, PGK_NONE, PGK_NONE - 1, 2, PGK_NONE }, { PGK_DONE, 0 }, { 3, PGK_NONE, 1 }, "many: the largest numbers" },
+        { 4 * W, 0, 0, { 0 }, { PGK_DONE, 0 }, { 0 }, "many: no positions" },
+        { 4 * W, 0, 4, { 0 }, { PGK_DONE, 0 }, { 0 }, "many: no positions, and places" },
+        { 0, 4, 2, { 0, 0, PGK_NONE, PGK_NONE }, { PGK_DONE, 0 }, { PGK_NONE, PGK_NONE }, "many: no tokens" },
+        { 4 * W, 6, 2, { 2, 5, 2, 5, 2, 5 }, { PGK_NO_ROOM, 3 }, { 0 }, "many: NoRoom with the number of pairs" },
+        { 4 * W, 2, 0, { 2, 5 }, { PGK_NO_ROOM, 1 }, { 0 }, "many: NoRoom, no places" },
+        { 4 * W, 1, 4, { 2 }, { PGK_ODD_LIST, 0 }, { 0 }, "many: OddList, one number" },
+        { 4 * W, 7, 4, { 2, 5, 2, 5, 2, 5, 2 }, { PGK_ODD_LIST, 0 }, { 0 }, "many: OddList, room enough" },
+        { 4 * W, 7, 2, { 2, 5, 2, 5, 2, 5, 2 }, { PGK_ODD_LIST, 0 }, { 0 }, "many: OddList before NoRoom" },
+        { 4 * W - 1, 4, 4, { 2, 5, 2, 5 }, { PGK_BAD_TABLE, 0 }, { 0 }, "many: BadTable" },
+        { 4 * W - 1, 3, 4, { 2, 5, 2 }, { PGK_BAD_TABLE, 0 }, { 0 }, "many: BadTable before OddList" },
+        { 12, 8, 3, { 2, 5, 2, 5, 2, 5, 2, 5 }, { PGK_BAD_TABLE, 0 }, { 0 }, "many: BadTable before NoRoom" },
+        { 1, 0, 0, { 0 }, { PGK_BAD_TABLE, 0 }, { 0 }, "many: BadTable, no positions" },
+    };
+    for (size_t i = 0; i < sizeof rows / sizeof *rows; i++)
+        check(many_all(table, rows[i].numbers, rows[i].asked, rows[i].n, rows[i].room, rows[i].want, rows[i].out), rows[i].what);
+
+    /* Every table of up to three tokens at nine positions, in any order, asked for all nine forth and back: as one by one. */
+    static const uint32_t ends[3] = { 0, 1, PGK_NONE };
+    uint32_t asked[ASKED];
+    int alone = 1;
+    unsigned hits = 0, misses = 0;
+    for (uint32_t i = 0; i < 18; i++) {
+        uint32_t k = i < 9 ? i : 17 - i;
+        asked[2 * i] = ends[k / 3];
+        asked[2 * i + 1] = ends[k % 3];
+    }
+    for (uint32_t tokens = 0, tables = 1; tokens <= 3; tokens++, tables *= 9)
+        for (uint32_t number = 0; number < tables; number++) {
+            uint32_t small[3 * W] = { 0 }, out[18], rest = number;
+            for (uint32_t t = 0; t < tokens; t++, rest /= 9) memcpy(small + W * t, asked + 2 * (rest % 9), 8);
+            pgk_answer a = pgk_lookup_many(small, W * tokens, asked, 36, out, 18);
+            alone &= a.code == PGK_DONE && a.number == 0;
+            for (uint32_t i = 0; i < 18; i++) {
+                alone &= pgk_lookup(small, W * tokens, asked[2 * i], asked[2 * i + 1]).number == out[i];
+                if (out[i] == none) misses++;
+                else hits++;
+            }
+        }
+    check(alone && hits > 1000 && misses > 1000, "many: every small table, as one by one");
+
+    /* Tables at random, of more tokens than the 64 that are looked at together, in order of their positions or in none. */
+    int ok = 1;
+    unsigned seen[18] = { 0 };
+    for (unsigned r = 0; r < rounds; r++) {
+        enum { MOST = 200 };
+        uint32_t long_table[MOST * W], out[ASKED], line = 0, col = 0;
+        size_t numbers = below(20) ? W * below(MOST + 1) : below(MOST * W + 1), n = below(ASKED + 1), room = below(10) ? n / 2 : below(ASKED);
+        if (below(4)) n -= n % 2;
+        uint32_t order = below(2), lines = 1 + below(9);
+        for (size_t k = 0; k < MOST * W; k += W) {
+            if (below(20) == 0) { line++; col = 0; }
+            col += below(3);
+            long_table[k] = order ? line : below(lines);
+            long_table[k + 1] = order ? col : below(4) ? below(9) : any();
+            for (size_t i = 2; i < W; i++) long_table[k + i] = any();
+        }
+        for (size_t i = 0; i + 1 < ASKED; i += 2) {
+            memcpy(asked + i, long_table + W * below(MOST), 8);
+            if (below(2)) asked[i] = below(lines + 1);
+            if (below(2)) asked[i + 1] += below(3) - 1;
+        }
+        pgk_answer want = found_many(long_table, numbers, asked, n, out, room);
+        seen[want.code]++;
+        ok &= many_all(long_table, numbers, asked, n, room, want, out);
+    }
+    check(ok, "many: any table, by the rule, in nine placements");
+    check(seen[PGK_DONE] && seen[PGK_NO_ROOM] && seen[PGK_BAD_TABLE] && seen[PGK_ODD_LIST], "many: met codes 0, 8, 11, 17");
+
+    /* What is only read may overlap: here the positions are a token's own. */
+    uint32_t self[W] = { 7, 8, 0, 0, 0, 0, 0 }, where = 9;
+    pgk_answer a = pgk_lookup_many(self, W, self, 2, &where, 1);
+    check(a.code == PGK_DONE && a.number == 0 && where == 0, "many: positions within the table");
+}
+
 /* How many numbers a table needs, by the rule: the bytes that begin a segment. */
 static size_t needed(const char *text, size_t len) {
     size_t n = 0;
@@ -671,13 +780,14 @@ static void header(void) {
     pgk_chunk c = pgk_first_chunk(4294967295u), d = { 0, 4294967295u, 0, 0, 0, 0, 0, 0 };
     check(same_chunk(c, d), "the first chunk");
     int ok = 1;
-    for (uint64_t i = 0; i <= 15; i++) {
+    for (uint64_t i = 0; i <= PGK_ODD_LIST; i++) {
+        if (i == 16) continue;   /* as 15, no code */
         const char *words = pgk_words(i);
         ok &= strlen(words) > 3 && words[strlen(words) - 1] != '.' && (strstr(words, ": ") != NULL) == (i != PGK_DONE);
         for (uint64_t j = 0; j < i; j++) ok &= strcmp(words, pgk_words(j)) != 0;
     }
     check(ok, "a sentence for each code, with what to do");
-    check(pgk_words(15) == pgk_words(16) && pgk_words(15) == pgk_words(4294967296u) && pgk_words(15) == pgk_words(~(uint64_t)0), "one sentence for unknown codes");
+    check(pgk_words(15) == pgk_words(16) && pgk_words(15) == pgk_words(18) && pgk_words(15) == pgk_words(4294967296u) && pgk_words(15) == pgk_words(~(uint64_t)0), "one sentence for unknown codes");
 }
 
 typedef struct { const uint8_t *text; size_t len; const size_t *ends; size_t count; } names;
@@ -811,6 +921,8 @@ static void empty(void) {
         ok &= pgk_translate(t, 0, none, none, none).code == 0 && pgk_translate_tokens((pgk_token *)t, 0, none, none, none).code == 0;
         pgk_answer a = pgk_lookup(t, 0, none, none);
         ok &= a.code == 0 && a.number == none;
+        a = pgk_lookup_many(t, 0, t, 0, t, 0);
+        ok &= a.code == 0 && a.number == 0;
         pgk_composed g = pgk_compose(t, 0, 1, b, 0, e, 0, t, 0, b, 0, e, 0, t, 0, t, 0);
         ok &= g.code == 0 && g.number == 0 && g.added == 0;
         pgk_name n = pgk_name_of(b, 0, e, 0, b, 0, e, 0, t, 0, none);
@@ -823,6 +935,10 @@ static void empty(void) {
     size_t count = 0;
     pgk_answer a = pgk_lookup(count ? table : &dummy, PGK_WIDTH * count, 0, 0);
     check(a.code == PGK_DONE && a.number == PGK_NONE, "a dummy where there is nothing to lend");
+    uint32_t *positions = NULL;
+    dummy = 9;
+    a = pgk_lookup_many(count ? table : &dummy, PGK_WIDTH * count, count ? positions : &dummy, 2 * count, &dummy, 0);
+    check(a.code == PGK_DONE && a.number == 0 && dummy == 9, "a dummy where there are no positions");
     munmap(shut, PAGE);
 }
 
@@ -839,6 +955,12 @@ static void too_many(void) {
     check(pgk_translate(t, W * tokens, 0, 0, 0).code == 11, "BadTable past 4294967294 tokens: translate");
     check(pgk_translate_tokens((pgk_token *)t, tokens, 0, 0, 0).code == 11, "BadTable past 4294967294 records");
     check(pgk_lookup(t, W * tokens, 0, 0).code == 11, "BadTable past 4294967294 tokens: lookup");
+    check(pgk_lookup_many(t, W * tokens, &number, 0, &number, 0).code == 11, "BadTable past 4294967294 tokens: lookup of many");
+    /* Nor are positions read that are refused. */
+    pgk_answer a = pgk_lookup_many(&number, 0, t, 30064771065, &number, 0);
+    check(a.code == 17 && a.number == 0, "OddList by the length alone");
+    a = pgk_lookup_many(&number, 0, t, 30064771064, &number, 0);
+    check(a.code == 8 && a.number == 15032385532, "NoRoom past 32 bits: lookup of many");
     check(pgk_meets_premises(t, W * tokens, none, none) == 0, "no premises past 4294967294 tokens");
     check(pgk_meets_checked_premises(t, W * tokens, none, none) == 0, "no premises of checked mode past 4294967294 tokens");
     check(pgk_compose(t, W * tokens, 0, &byte, 0, &end, 0, &number, 0, &byte, 0, &end, 0, &number, 0, &number, 0).code == 11, "BadTable: compose, outer");
@@ -852,13 +974,17 @@ static void too_many(void) {
     munmap(t, 4 * W * tokens);
 }
 
-/* An output table need not be set: nothing of it is read. valgrind watches. */
+/* What is written need not be set: nothing of it is read. valgrind watches. */
 static void unset(void) {
     uint32_t *t = malloc(4 * (2 * W + 1));
     pgk_decoded d = pgk_decode((const uint8_t *)"AAEG;C,", 7, 1, 0, t, 2 * W + 1);
     uint32_t sum = 0;
     for (size_t i = 0; i < W * d.tokens; i++) sum += t[i];
     check(d.code == 0 && d.tokens == 2 && sum == 0 + 2 + 3 + none + 1 + 1 + 2 + 3 + none + none + 5, "a table that was never set");
+    uint32_t asked[4] = { 1, 1, 1, 0 }, *out = malloc(4 * 2);
+    pgk_answer a = pgk_lookup_many(t, W * d.tokens, asked, 4, out, 2);
+    check(a.code == 0 && out[0] == 1 && out[1] == none, "places of many lookups that were never set");
+    free(out);
     free(t);
 }
 
@@ -871,6 +997,7 @@ static void widths(void) {
     for (size_t n = 0; n <= 6 * W; n++) {
         uint64_t code = n % 7 == 0 ? PGK_DONE : PGK_BAD_TABLE;
         ok &= pgk_encode(table, n, pgk_first_chunk((uint32_t)(n / 7)), byte, sizeof byte).code == code && pgk_lookup(table, n, 0, 0).code == code;
+        ok &= pgk_lookup_many(table, n, result, 0, &added, 0).code == code;
         ok &= pgk_translate(table, n, 0, 0, 0).code == code && pgk_meets_premises(table, n, 1, 1) == (code == PGK_DONE);
         ok &= pgk_meets_checked_premises(table, n, 1, 1) == (code == PGK_DONE);
         ok &= pgk_compose(table, n, 1, byte, 0, &end, 0, table, 0, byte, 0, &end, 0, result, 6 * W, &added, 1).code == code;
@@ -925,6 +1052,7 @@ int main(int argc, char **argv) {
     writing(rounds);
     translating(rounds);
     looking(rounds);
+    looking_many(rounds);
     premises(rounds);
     composing(rounds);
     empty();

@@ -47,6 +47,7 @@ int main(void) {
     FIELD(pgk_name, outer);
     FIELD(pgk_name, start);
     FIELD(pgk_name, end);
+    TYPE(uint32_t[2]);   /* a position */
     TYPE(size_t);
     printf("PGK_NONE %llu\n", (unsigned long long)PGK_NONE);
     printf("PGK_WIDTH %u\n", PGK_WIDTH);
@@ -66,6 +67,7 @@ int main(void) {
     CODE(PGK_TOO_BIG);
     CODE(PGK_MORE_THAN_ONE_SOURCE);
     CODE(PGK_BAD_NAMES);
+    CODE(PGK_ODD_LIST);
     printf("unknown %u %s\n", 99u, pgk_words(99));
     return 0;
 }

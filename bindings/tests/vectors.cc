@@ -27,12 +27,21 @@ int main() {
     pgk_decoded d = decoded({}, table);
     check(d.code == PGK_DONE && table.empty(), "an empty text needs no table");
     check(pgk_lookup(lent(table), table.size(), 0, 0).number == PGK_NONE, "a lookup in no table");
+    std::vector<uint32_t> positions, found;
+    pgk_answer many = pgk_lookup_many(lent(table), table.size(), lent(positions), positions.size(), lent(found), found.size());
+    check(many.code == PGK_DONE && many.number == 0, "no positions in no table");
     check(pgk_meets_premises(lent(table), table.size(), 0, 0) == 1, "the premises of no table");
     check(pgk_meets_checked_premises(lent(table), table.size(), 0, 0) == 1, "those of checked mode");
 
     d = decoded({ 'A', 'A', 'E', 'G', ';', 'C', ';' }, table);
     check(d.code == PGK_DONE && d.tokens == 2 && d.offset == 7, "two tokens");
     check(table[6] == 0 && table[PGK_WIDTH + 6] == 5, "where their segments begin");
+    positions = { 0, 7, 1, 0, 1, 1, 0, 7 };
+    many = pgk_lookup_many(lent(table), table.size(), lent(positions), positions.size(), lent(found), found.size());
+    check(many.code == PGK_NO_ROOM && many.number == 4, "four positions and no places");
+    found.resize(many.number);
+    many = pgk_lookup_many(lent(table), table.size(), lent(positions), positions.size(), lent(found), found.size());
+    check(many.code == PGK_DONE && found == std::vector<uint32_t>({ 0, PGK_NONE, 1, 0 }), "four positions");
     check(pgk_meets_premises(lent(table), table.size(), 1, 0) == 1, "their premises");
     check(pgk_meets_checked_premises(lent(table), table.size(), 1, 0) == 1, "those of checked mode");
     std::vector<uint8_t> out(36 * d.tokens + 1);

@@ -52,10 +52,11 @@
 //! [`meets_premises`] says for lenient mode, and [`meets_checked_premises`] for both.
 //!
 //! # Cost
-//! A lookup reads the line of every token, 0.4 to 1.2 ns each. [`compose`] does one lookup for each outer token with
-//! a source and a search of the inner names for each outer name that it takes, so its time grows with the product of
-//! both tables: 8,000 over 8,000 tokens take 63 times the time of the crate oxc_sourcemap, and 94,520 over 63,264
-//! tokens of two real maps took 16 s. Compose where the bundle is built and not while a run waits.
+//! A lookup reads the line of every token, 0.4 to 1.2 ns each. [`lookup_many`] reads the table once for all of its positions.
+//! [`compose`] does one lookup for each outer token with a source and a search of the inner names for each outer name that it
+//! takes, so its time grows with the product of both tables: 8,000 over 8,000 tokens take 63 times the time of the crate
+//! oxc_sourcemap, and 94,520 over 63,264 tokens of two real maps took 16 s. Compose where the bundle is built and not while a run
+//! waits.
 //!
 //! # Refusals
 //! Every input is answered, a value or a [`Refusal`]. A refused decode keeps the tokens before the refused segment,
@@ -77,10 +78,11 @@ mod refusal;
 mod token;
 
 pub use refusal::{Refusal, Stop};
-pub use token::{table_of, table_of_mut, tokens_of, written, Token, TokenChunk, NONE, WIDTH};
+use token::pairs_of;
+pub use token::{table_of, table_of_mut, tokens_of, written, Position, Token, TokenChunk, NONE, WIDTH};
 
 /// The version of this crate: major × 1,000,000 + minor × 1,000 + patch.
-pub const VERSION: u64 = 6000;
+pub const VERSION: u64 = 7000;
 
 /// The version of the archive that was linked. Where it is not [`VERSION`], `PEGHAYRICK_LIB_DIR` named another version's.
 ///
@@ -407,6 +409,46 @@ pub fn lookup_index(table: &[u32], line: u32, col: u32) -> Result<Option<u32>, R
 pub fn lookup_token(table: &[u32], line: u32, col: u32) -> Result<Option<Token>, Refusal> {
     let index = lookup_index(table, line, col)?;
     Ok(index.and_then(|i| tokens_of(table).get(i as usize).copied()))
+}
+
+/// The indices of the tokens at many generated positions, in one call: `found[i]` becomes what [`lookup_index`] says of
+/// `positions[i]`, and [`NONE`] where that is `None`. `NONE` is the index of no token, so `tokens.get(found[i] as usize)` is
+/// `None` there too.
+///
+/// The positions may be in any order and may come again; the table may be in any order. Places of `found` past the positions
+/// are kept. No positions are done. A token that is found may have no source: then its source line and column must not be
+/// shown.
+///
+/// Hand in the part of the table that was [`written`]. It is read once for all positions, in blocks of 64 tokens, and a block
+/// is read again only for a position that lies within it.
+///
+/// ```
+/// use peghayrick::{lookup_many, table_of, Position, Refusal, Token, NONE};
+/// let tokens = [Token::new(0, 1, 9, 0, Some(0), None), Token::new(0, 6, 9, 4, Some(0), None)];
+/// let asked = [Position::new(0, 7), Position::new(0, 0), Position::new(0, 5), Position::new(0, 7)];
+/// let mut found = [0; 4];
+/// lookup_many(table_of(&tokens), &asked, &mut found)?;
+/// assert_eq!(found, [1, NONE, 0, 1]);
+///
+/// let columns: Vec<Option<u32>> = found.iter().map(|&index| tokens.get(index as usize).map(|t| t.src_col)).collect();
+/// assert_eq!(columns, [Some(4), None, Some(0), Some(4)]);
+///
+/// // Too little room: nothing is written, and the refusal says how much is needed.
+/// assert_eq!(lookup_many(table_of(&tokens), &asked, &mut found[..3]), Err(Refusal::NoRoom { needed: 4 }));
+/// # Ok::<(), Refusal>(())
+/// ```
+///
+/// # Errors
+/// In this order: [`BadTable`](Refusal::BadTable); [`NoRoom`](Refusal::NoRoom) if `found` is shorter than the positions, with
+/// their number. A refusal writes nothing. [`OddList`](Refusal::OddList), which the C form has between the two, cannot come: a
+/// slice of [`Position`] always has both numbers of each.
+pub fn lookup_many(table: &[u32], positions: &[Position], found: &mut [u32]) -> Result<(), Refusal> {
+    let pairs = pairs_of(positions);
+    // SAFETY: each slice is lent with its own pointer and length for the call; the one that is written overlaps nothing.
+    answered(unsafe {
+        raw::pgk_lookup_many(table.as_ptr(), table.len(), pairs.as_ptr(), pairs.len(), found.as_mut_ptr(), found.len())
+    })
+    .map(|_| ())
 }
 
 /// A name list: a text and the end of each name in it; a name begins where the one before it ends.

@@ -90,6 +90,14 @@ extern "C" {
         name_offset: u32,
     ) -> Answer;
     pub fn pgk_lookup(table: *const u32, table_len: usize, line: u32, col: u32) -> Answer;
+    pub fn pgk_lookup_many(
+        table: *const u32,
+        table_len: usize,
+        positions: *const u32,
+        positions_len: usize,
+        found: *mut u32,
+        found_len: usize,
+    ) -> Answer;
     pub fn pgk_compose(
         outer: *const u32,
         outer_len: usize,

@@ -13,7 +13,7 @@ pub struct Stop {
     pub offset: usize,
 }
 
-/// Why a call was refused. The codes are 1 to 14, in this order; later versions may have more.
+/// Why a call was refused. The codes are 1 to 14 and 17, in this order; later versions may have more.
 ///
 /// `Display` says what is wrong, where, and what to do; [`words`](Refusal::words) is one fixed sentence a code:
 ///
@@ -76,7 +76,7 @@ pub enum Refusal {
         /// Where the decode stopped; `None` from [`compose`](crate::compose).
         at: Option<Stop>,
     },
-    /// 8: the output or the list of added names is too short.
+    /// 8: the output, the list of added names or the list of found indices is too short.
     NoRoom {
         /// How many places are needed.
         needed: u64,
@@ -102,6 +102,10 @@ pub enum Refusal {
     MoreThanOneSource,
     /// 14: a name list's ends fall or pass its text, or it has more than 2,147,483,647 names.
     BadNames,
+    /// 17: the list of positions has an odd length. No function of the crate gives it, since
+    /// [`lookup_many`](crate::lookup_many) takes whole positions; [`raw::pgk_lookup_many`](crate::raw::pgk_lookup_many)
+    /// answers with this code.
+    OddList,
     /// Another code: the archive that was linked is not of this crate's version.
     Unknown {
         /// The code.
@@ -133,11 +137,12 @@ impl Refusal {
             (12, at) => TooBig { index: number, at },
             (13, None) => MoreThanOneSource,
             (14, None) => BadNames,
+            (17, None) => OddList,
             _ => Unknown { code, number },
         }
     }
 
-    /// The code, 1 to 14.
+    /// The code: 1 to 14, or 17.
     pub const fn code(&self) -> u64 {
         match *self {
             VlqLeftover { .. } => 1,
@@ -154,6 +159,7 @@ impl Refusal {
             TooBig { .. } => 12,
             MoreThanOneSource => 13,
             BadNames => 14,
+            OddList => 17,
             Unknown { code, .. } => code,
         }
     }
@@ -169,7 +175,8 @@ impl Refusal {
     /// ```
     pub const fn words(&self) -> &'static str {
         match self {
-            Unknown { .. } => WORDS[14],
+            OddList => WORDS[14],
+            Unknown { .. } => WORDS[15],
             known => WORDS[known.code() as usize - 1],
         }
     }
@@ -182,7 +189,14 @@ impl Refusal {
             | BadNameReference { name_id: n, .. }
             | WideValue { field: n, .. } => n as u64,
             NoRoom { needed: n } | LineGoesBack { index: n } | TooBig { index: n, .. } | Unknown { number: n, .. } => n,
-            VlqLeftover { .. } | VlqOverflow { .. } | TableFull { .. } | BadChunk | BadTable | MoreThanOneSource | BadNames => 0,
+            VlqLeftover { .. }
+            | VlqOverflow { .. }
+            | TableFull { .. }
+            | BadChunk
+            | BadTable
+            | MoreThanOneSource
+            | BadNames
+            | OddList => 0,
         }
     }
 
@@ -217,13 +231,14 @@ impl Refusal {
             TooBig { .. } => "TooBig",
             MoreThanOneSource => "MoreThanOneSource",
             BadNames => "BadNames",
+            OddList => "OddList",
             Unknown { .. } => "Unknown",
         }
     }
 }
 
-/// What the codes 1 to 14 say and what to do about each: `pgk_words` of the C header. The last is for an unknown code.
-const WORDS: [&str; 15] = [
+/// What the codes 1 to 14 and 17 say and what to do about each: `pgk_words` of the C header. The last is for an unknown code.
+const WORDS: [&str; 16] = [
     "a value is cut short: do not use this map, build the bundle and its map again and load both",
     "a value has more than 13 digits: do not use this map, build the bundle and its map again and load both",
     "a segment has not 1, 4 or 5 fields, or a column or line falls below 0: do not use this map, build the bundle and its map again and load both",
@@ -238,6 +253,7 @@ const WORDS: [&str; 15] = [
     "a line or an id would become too large, or a segment begins at byte 4294967295 or later: to translate, use smaller offsets or join fewer maps (nothing was moved); to decode, build the bundle in parts, each with its own map",
     "the outer map has more than one source: compose only a map of a single input with that input's map",
     "a name list is broken: its ends must not fall, the last must lie within the text, and at most 2147483647 names are taken",
+    "the list of positions has an odd length: hand in two numbers for each position, its line first and then its column",
     "the code is unknown: link the libpeghayrick.a that belongs to this version",
 ];
 
@@ -283,6 +299,7 @@ impl fmt::Display for Refusal {
             TooBig { index, at: None } => write!(f, "the line or an id of token {index} becomes too large ({name}); nothing was moved: use smaller offsets, or join fewer maps"),
             MoreThanOneSource => write!(f, "the outer map has more than one source ({name}); only a map of a single input can be composed with that input's map"),
             BadNames => write!(f, "a name list is broken ({name}); its ends must not fall, the last must lie within the text, and at most 2147483647 names are taken"),
+            OddList => write!(f, "the list of positions has an odd length ({name}); hand in two numbers for each position, its line first and then its column"),
             _ => write!(f, "unknown code {} with {}; link the libpeghayrick.a that belongs to this crate", self.code(), self.number()),
         }
     }
@@ -307,5 +324,17 @@ mod tests {
         let moved = Refusal::new(12, 3, None);
         assert_eq!((moved.code(), moved.number(), moved.at(), moved.name()), (12, 3, None, "TooBig"));
         assert!(moved.to_string().contains("nothing was moved"));
+    }
+
+    /// Code 17, which no safe function gives. The two codes before it are unknown.
+    #[test]
+    fn odd_list() {
+        let odd = Refusal::new(17, 0, None);
+        assert_eq!(odd, OddList);
+        assert_eq!((odd.code(), odd.number(), odd.at(), odd.name()), (17, 0, None, "OddList"));
+        assert!(odd.to_string().starts_with("the list of positions has an odd length (OddList); "));
+        for code in [15, 16, 18] {
+            assert_eq!(Refusal::new(code, 3, None), Unknown { code, number: 3 });
+        }
     }
 }

@@ -1,9 +1,9 @@
-//! Tokens, chunks and tables.
+//! Tokens, positions, chunks and tables.
 
 use core::mem::{align_of, size_of, size_of_val};
 use core::{fmt, slice};
 
-/// As an id or a segment: none.
+/// As an id, a segment or an index that [`lookup_many`](crate::lookup_many) wrote: none.
 pub const NONE: u32 = u32::MAX;
 
 /// How many numbers a token has in a table.
@@ -181,6 +181,31 @@ impl fmt::Debug for Token {
     }
 }
 
+/// A generated position, as [`lookup_many`](crate::lookup_many) is asked for it. Line and column count from 0, the column in
+/// UTF-16 units.
+///
+/// ```
+/// use peghayrick::Position;
+/// // Column 32 of line 3, as JavaScript engines count: from 1.
+/// let stop = Position { line: 3 - 1, col: 32 - 1 };
+/// assert_eq!(stop, Position::new(2, 31));
+/// ```
+#[repr(C)]
+#[derive(Debug, Clone, Copy, Default, PartialEq, Eq, Hash)]
+pub struct Position {
+    /// The generated line.
+    pub line: u32,
+    /// The generated column.
+    pub col: u32,
+}
+
+impl Position {
+    /// A position: the line, then the column.
+    pub const fn new(line: u32, col: u32) -> Self {
+        Self { line, col }
+    }
+}
+
 /// A part of a table that is written at once, and the numbers that its first token is written against.
 #[repr(C)]
 #[derive(Debug, Clone, Copy, Default, PartialEq, Eq)]
@@ -227,6 +252,7 @@ impl TokenChunk {
 
 // What the casts below rest on.
 const _: () = assert!(size_of::<Token>() == WIDTH * size_of::<u32>() && align_of::<Token>() == align_of::<u32>());
+const _: () = assert!(size_of::<Position>() == 2 * size_of::<u32>() && align_of::<Position>() == align_of::<u32>());
 
 /// The tokens of a table; numbers past the last whole token are left out.
 ///
@@ -273,4 +299,10 @@ pub fn table_of_mut(tokens: &mut [Token]) -> &mut [u32] {
 /// ```
 pub fn written(table: &[u32], tokens: usize) -> &[u32] {
     table.get(..tokens.saturating_mul(WIDTH)).unwrap_or(table)
+}
+
+/// Positions as pairs of numbers, a line and its column after it.
+pub(crate) fn pairs_of(positions: &[Position]) -> &[u32] {
+    // SAFETY: a Position is two u32 in a row, aligned as they are; the bytes are the same.
+    unsafe { slice::from_raw_parts(positions.as_ptr().cast(), size_of_val(positions) / size_of::<u32>()) }
 }

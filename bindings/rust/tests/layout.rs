@@ -2,7 +2,7 @@
 //! names what it printed in `PEGHAYRICK_LAYOUT`; without that, it is built here.
 
 use core::mem::{align_of, offset_of, size_of};
-use peghayrick::{raw, Refusal, Stop, Token, TokenChunk, NONE, VERSION, WIDTH};
+use peghayrick::{raw, Position, Refusal, Stop, Token, TokenChunk, NONE, VERSION, WIDTH};
 use std::fmt::Write;
 use std::path::Path;
 use std::process::Command;
@@ -30,6 +30,7 @@ fn rust() -> String {
     layout!(out, "pgk_encoded", raw::Encoded: code number bytes next);
     layout!(out, "pgk_composed", raw::Composed: code number added);
     layout!(out, "pgk_name", raw::Name: found outer start end);
+    layout!(out, "uint32_t[2]", Position:);
     layout!(out, "size_t", usize:);
     writeln!(out, "PGK_NONE {NONE}").unwrap();
     writeln!(out, "PGK_WIDTH {WIDTH}").unwrap();
@@ -43,7 +44,7 @@ fn rust() -> String {
     out
 }
 
-fn refusals() -> [Refusal; 14] {
+fn refusals() -> [Refusal; 15] {
     let at = Stop { tokens: 0, offset: 0 };
     [
         Refusal::VlqLeftover { at },
@@ -60,6 +61,7 @@ fn refusals() -> [Refusal; 14] {
         Refusal::TooBig { index: 0, at: None },
         Refusal::MoreThanOneSource,
         Refusal::BadNames,
+        Refusal::OddList,
     ]
 }
 
@@ -97,6 +99,8 @@ fn both_have_the_same_structs_constants_and_words() {
 #[test]
 fn sizes() {
     assert_eq!((size_of::<Token>(), offset_of!(Token, segment), WIDTH), (28, 24, 7));
+    assert_eq!((size_of::<Position>(), align_of::<Position>()), (8, 4));
+    assert_eq!((offset_of!(Position, line), offset_of!(Position, col)), (0, 4));
     assert_eq!(size_of::<TokenChunk>(), 32);
     assert_eq!((size_of::<raw::Answer>(), size_of::<raw::Decoded>(), size_of::<raw::Encoded>()), (16, 32, 56));
     assert_eq!((size_of::<raw::Composed>(), size_of::<raw::Name>()), (24, 32));

@@ -29,10 +29,6 @@ pub fn lookup(table: &[u32], line: u32, col: u32) -> Answer {
     unsafe { pgk_lookup(table.as_ptr(), table.len(), line, col) }
 }
 
-unsafe extern "C" {
-    fn pgk_lookup_many(table: *const u32, numbers: usize, positions: *const u32, asked: usize, found: *mut u32, room: usize) -> Answer;
-}
-
 pub fn lookup_many(table: &[u32], positions: &[u32], found: &mut [u32]) -> Answer {
     let (p, f) = (positions.as_ptr(), found.as_mut_ptr());
     unsafe { pgk_lookup_many(table.as_ptr(), table.len(), p, positions.len(), f, found.len()) }

@@ -45,6 +45,10 @@ pub none-index : (o : Option ℕ) → ((j : ℕ) → o ≡ some j → j < 429496
 none-index none small e = refl
 none-index (some i) small e = let h = small i refl in absurd (omega (arith, e))
 
+index-bound : (o : Option ℕ) → ((j : ℕ) → o ≡ some j → j < 4294967295) → indexOf o < 4294967296
+index-bound none small = omega arith
+index-bound (some i) small = let h = small i refl in omega arith
+
 -- the column that the next token must reach
 abbrev leastOf : List ℕ → Option ℕ → ℕ
 leastOf table none = 0
@@ -111,6 +115,12 @@ module _ (table : List ℕ) (line col : ℕ) where
   from-nothing = refl
 
   module _ (from to best least i : ℕ) (b : Between table from to) (f : Scanned to best least i) where
+    pub best-fits : best < 4294967296
+    best-fits =
+        let part : Between table i to = record { good = b .good; rises = f .within; within = b .within } in
+        let h = index-bound (bestOf table line col i) (index-small i to part) in
+        omega (arith, f .found)
+
     pub ended : to ≤ i → best ≡ indexOf (bestOf table line col to)
     ended h = f .found ∙ ap (λ (k : ℕ). indexOf (bestOf table line col k)) (let e : i ≡ to = omega (arith, f .within) in e)
 

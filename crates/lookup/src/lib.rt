@@ -60,7 +60,7 @@ pub fn best_in(table: &[u32], from: usize, to: usize, line: u32, col: u32, found
     requires { ⌜ Between (now table) from to × (found ≡ indexOf (bestOf (now table) line col from)) ⌝ }
     ensures { λ r. ⌜ r ≡ indexOf (bestOf (now (table .entry)) line col to) ⌝ }
 {
-    let mut best = found;
+    let mut best = found as usize;
     let mut least: u32 = 0;
     if found != NONE {
         let t = token::token_at(table, found as usize);
@@ -69,13 +69,13 @@ pub fn best_in(table: &[u32], from: usize, to: usize, line: u32, col: u32, found
     let mut i = from;
     while i < to {
         if takes(table, i, line, col, least) {
-            best = i as u32;
+            best = i;
             let t = token::token_at(table, i);
             least = t.dst_col;
         }
         i += 1;
     }
-    best
+    best as u32
 }
 
 // The lookup in a table that is known to be one.

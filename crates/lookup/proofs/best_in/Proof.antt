@@ -1,5 +1,5 @@
 -- `lookup::best_in` meets its contract, by the laws of `Scan`. Assumes nothing.
-use Rattle.lookup.proofs.Scan.{Scanned, found-inside, start-none, start-some, ended, inside, index-fits, takes, leaves}
+use Rattle.lookup.proofs.Scan.{Scanned, found-inside, start-none, start-some, best-fits, ended, inside, index-fits, takes, leaves}
 use native.Mathlib.Omega.{arith}
 use Prim.Native.Nat.{_-_}
 use mathlib.Core.Logic.{⊎-elim}
@@ -26,9 +26,6 @@ loop-holds c = ⊎-elim
 takes-requires : tie.Need-takes-requires Inv-loop μ-loop
 takes-requires c κs = inside _ _ _ _ _ _ _ _ (c .before .before .before .before .pre .0) (c .before .loop .inv) (c .loop-test .taken)
 
-cast-best : tie.Need-cast-best Inv-loop μ-loop
-cast-best c = omega (arith, index-fits _ _ _ _ _ _ _ _ (c .before .before .before .before .before .before .pre .0) (c .before .before .before .loop .inv) (c .before .before .loop-test .taken))
-
 token-at-requires-2 : tie.Need-token-at-requires-2 Inv-loop μ-loop
 token-at-requires-2 c κs = inside _ _ _ _ _ _ _ _ (c .before .before .before .before .before .before .pre .0) (c .before .before .before .loop .inv) (c .before .before .loop-test .taken)
 
@@ -44,6 +41,9 @@ loop-again c = ⊎-elim
     (λ w. rw (w .1, w .2) (leaves _ _ _ _ _ _ _ _ (c .before .before .before .before .before .before .pre .0) (c .before .before .before .loop .inv) (c .before .before .loop-test .taken) (sym (w .0 .left) ∙ c .before .takes .ensures)))
     (c .if2 .came)
 
+cast-result : tie.Need-cast-result Inv-loop μ-loop
+cast-result c = omega (arith, best-fits _ _ _ _ _ _ _ _ (c .before .before .before .before .pre .0) (c .before .loop .inv))
+
 returns : tie.Need-returns Inv-loop μ-loop
 returns c = ended _ _ _ _ _ _ _ _ (c .before .before .before .before .pre .0) (c .before .loop .inv) (c .loop-test .left)
 
@@ -56,9 +56,9 @@ best-in-spec =
     token-at-requires
     loop-holds
     takes-requires
-    cast-best
     token-at-requires-2
     add-i
     loop-less
     loop-again
+    cast-result
     returns)

@@ -2,6 +2,7 @@
 -- another. Assumes nothing.
 use mathlib.Core.Path.{_≡_, refl, sym, _∙_, ap, subst}
 use mathlib.Core.Bool.{Bool, true, false}
+use mathlib.Core.Logic.{inl, inr}
 use mathlib.Core.List.{List}
 use Prim.Native.Nat.{ℕ, _+_, _-_, _≤_, _<_}
 use native.Mathlib.Omega.{arith}
@@ -12,10 +13,11 @@ use borrow.Author.Tests.{eq-eqb, ne-eqb, ltb-true, ltb-false}
 use Rattle.code.specs.Code.{codeOf}
 use Rattle.code.specs.declared.Code.{Code}
 use Rattle.token.specs.Table.{places, badTable}
-use Rattle.lookup.specs.Lookup.{Looks, lookupOf, foundOf, foundCode, foundNumber}
+use Rattle.token.proofs.Whole.{few}
+use Rattle.lookup.specs.Lookup.{Best, Looks, lookupOf, foundOf, foundCode, foundNumber}
 use Rattle.lookup.specs.declared.Found.{Found}
 use Rattle.lookup.proofs.Best as best
-use Rattle.lookup_many.specs.Many.{pairs, lineOf, colOf, manyTo, Says, filled, LooksMany}
+use Rattle.lookup_many.specs.Many.{pairs, lineOf, colOf, manyTo, Says, filled, LooksMany, Told}
 use Rattle.lookup_many.specs.Blocks.{Held}
 use Rattle.lookup_many.proofs.Tests.{opens}
 
@@ -96,3 +98,18 @@ module _ (table positions found : List ℕ) where
       one-says table (lineOf positions k) (colOf positions k) (foundNumber f) (getD x k 0) (record { found = f; looks = l; says = refl })
           (a .each k (omega (arith, all table positions found r (a .says) done))),
     )
+
+    told-by : (n : ℕ) (f : Found) → Looks table (lineOf positions k) (colOf positions k) f → n ≡ foundNumber f → Told table (lineOf positions k) (colOf positions k) n
+    told-by n (Found.At i) l e =
+        inr (
+          (let h = few (length table) (ready table positions found r (a .says) done .0) in let g = l .1 .fits .within in omega (arith, e)),
+          subst (Best table (lineOf positions k) (colOf positions k)) (sym e) (l .1),
+        )
+    told-by n Found.Nothing l e = inl (e, l .1)
+    told-by n Found.BadTable l e =
+        (let q = sym l ∙ ready table positions found r (a .says) done .0 in let z : _≡_ {A = ℕ} 0 1 = cc in absurd (omega arith))
+
+    pub told : Told table (lineOf positions k) (colOf positions k) (getD x k 0)
+    told =
+        let s = a .each k (omega (arith, all table positions found r (a .says) done)) in
+        told-by (getD x k 0) (s .found) (s .looks) (s .says)

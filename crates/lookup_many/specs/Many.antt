@@ -1,6 +1,7 @@
 -- docs/RULES.md, Looking up many positions: the answer, its refusals in order, and what the lent list holds then. Assumes nothing.
 use mathlib.Core.Path.{_≡_}
 use mathlib.Core.Bool.{Bool}
+use mathlib.Core.Logic.{_⊎_}
 use mathlib.Core.List.{List}
 use Prim.Native.Nat.{ℕ, _+_, _*_, _/_, _%_, _<_}
 use lib.Dec.{eqb, ltb}
@@ -9,7 +10,7 @@ use Rattle.list.specs.Pick.{pick}
 use Rattle.code.specs.Code.{codeOf}
 use Rattle.code.specs.declared.Code.{Code}
 use Rattle.token.specs.Table.{badTable}
-use Rattle.lookup.specs.Lookup.{Looks, foundNumber}
+use Rattle.lookup.specs.Lookup.{Fits, Best, Looks, foundNumber}
 use Rattle.lookup.specs.declared.Found.{Found}
 
 -- a position is a pair of numbers, line and column
@@ -49,3 +50,8 @@ pub record LooksMany (table positions found : List ℕ) (r : Code) (found′ : L
   pub each : (k : ℕ) → k < filled r positions → Says table (lineOf positions k) (colOf positions k) (getD found′ k 0)
   pub kept : drop (filled r positions) found′ ≡ drop (filled r positions) found
   pub sized : length found′ ≡ length found
+
+-- ---- what a place that is filled says: 4,294,967,295 that no token fits the position, every other number that it is the best token's index
+abbrev pub Told : List ℕ → ℕ → ℕ → ℕ → Type 0
+Told table line col n =
+    ((n ≡ 4294967295) × ((j : ℕ) → Fits table line col j → ⊥)) ⊎ ((n < 4294967295) × Best table line col n)

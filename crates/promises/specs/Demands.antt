@@ -34,7 +34,7 @@ use Rattle.records.specs.Records.{TranslatesRecords, answerOf}
 use Rattle.records.proofs.Laws as records
 use Rattle.lookup.specs.Lookup.{Looks}
 use Rattle.lookup.proofs.Best as lookup
-use Rattle.lookup_many.specs.Many.{pairs, lineOf, colOf, LooksMany}
+use Rattle.lookup_many.specs.Many.{pairs, lineOf, colOf, LooksMany, Told}
 use Rattle.lookup_many.proofs.Whole as many
 use Rattle.names.specs.Names.{NameList, placeOf}
 use Rattle.compose.specs.Compose.{Maps, Composes}
@@ -108,6 +108,12 @@ pub one-by-one : (table positions found : List ℕ) (r : Answer) (x : List ℕ) 
 one-by-one table positions found r x a d k h s b =
     let e = many.one-by-one table positions found (a .inner) x (a .holds) (ap (λ (o : Answer). o .code) (sym (a .says)) ∙ d) k h (b .inner) (b .holds) in
     (ap (λ (o : Answer). o .code) (b .says) ∙ e .0, ap (λ (o : Answer). o .number) (b .says) ∙ e .1)
+
+-- and the number says what it seems to: 4,294,967,295 that no token fits the position, every other one that it is the best token's index
+pub index-or-none : (table positions found : List ℕ) (r : Answer) (x : List ℕ) → Goes (λ c. LooksMany table positions found c x) answerOf r → r .code ≡ 0
+    → (k : ℕ) → k < pairs (length positions) → Told table (lineOf positions k) (colOf positions k) (getD x k 0)
+index-or-none table positions found r x a d k h =
+    many.told table positions found (a .inner) x (a .holds) (ap (λ (o : Answer). o .code) (sym (a .says)) ∙ d) k h
 
 -- pgk_compose
 pub one-compose : (m : Maps) (result added : List ℕ) (r s : ComposedOut) (x y v w : List ℕ)

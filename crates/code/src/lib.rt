@@ -1,7 +1,7 @@
 // The codes of docs/RULES.md: what an entry says of its input, and the number that goes with it.
 ghost use mathlib.Core.Path.{_≡_};
 ghost use Rattle.code.specs.Code.{codeOf, numberOf};
-ghost use Rattle.code.specs.Narrow.{placeOf, narrowOf};
+ghost use Rattle.code.specs.Narrow.{rankOf, narrowOf};
 
 pub enum Code {
     Done,
@@ -22,9 +22,9 @@ pub enum Code {
     OddList,
 }
 
-// A code's place among the codes, from 0.
-fn place_of(c: Code) -> u64
-    ensures { λ r. ⌜ r ≡ placeOf c ⌝ }
+// A code's rank among the codes, from 0.
+fn rank_of(c: Code) -> u64
+    ensures { λ r. ⌜ r ≡ rankOf c ⌝ }
 {
     match c {
         Code::Done => 0,
@@ -46,14 +46,14 @@ fn place_of(c: Code) -> u64
     }
 }
 
-// The code's number in the table of docs/RULES.md. It is the place but for the codes behind a gap: two questions in place of one take
+// The code's number in the table of docs/RULES.md. It is the rank but for the codes behind a gap: two questions in place of one take
 // no table.
 pub fn code_of(c: Code) -> u64
     ensures { λ r. ⌜ r ≡ codeOf c ⌝ }
 {
     match c {
         Code::OddList => 17,
-        _ => place_of(c),
+        _ => rank_of(c),
     }
 }
 

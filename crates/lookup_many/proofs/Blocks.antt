@@ -18,7 +18,7 @@ use Rattle.lookup.specs.Parts.{Between, indexOf}
 use Rattle.lookup.proofs.Best.{Among, among}
 use Rattle.lookup.proofs.Scan.{some-index, none-index, index-small, found-inside}
 use Rattle.lookup.proofs.Part.{fits-says, passed, first-found, later-found, earlier-kept}
-use Rattle.lookup_many.specs.Blocks.{placeOf, placeAt, Spans}
+use Rattle.lookup_many.specs.Blocks.{keyOf, keyAt, Spans}
 use Rattle.lookup_many.specs.declared.Block.{Block}
 
 -- a table's numbers have 32 bits
@@ -32,12 +32,12 @@ module _ (table : List ℕ) (from to : ℕ) where
     pub within : i ≤ to
     pub begins : from ≤ last
     pub ends : last < i
-    pub at : most ≡ placeAt table last
-    pub lowest : (j : ℕ) → from ≤ j → j < i → least ≤ placeAt table j
-    pub highest : (j : ℕ) → from ≤ j → j < i → (placeAt table j < most) ⊎ ((placeAt table j ≡ most) × (j ≤ last))
+    pub at : most ≡ keyAt table last
+    pub lowest : (j : ℕ) → from ≤ j → j < i → least ≤ keyAt table j
+    pub highest : (j : ℕ) → from ≤ j → j < i → (keyAt table j < most) ⊎ ((keyAt table j ≡ most) × (j ≤ last))
 
   -- the first token alone
-  pub first : from < to → (p : ℕ) → p ≡ placeAt table from → Spanned p p from (from + 1)
+  pub first : from < to → (p : ℕ) → p ≡ keyAt table from → Spanned p p from (from + 1)
   first h p e =
       record {
         within = omega arith;
@@ -45,7 +45,7 @@ module _ (table : List ℕ) (from to : ℕ) where
         ends = omega arith;
         at = e;
         lowest = λ j l g. (let q : j ≡ from = omega arith in rw (q, e) (omega arith));
-        highest = λ j l g. (let q : j ≡ from = omega arith in inr (ap (placeAt table) q ∙ sym e, omega arith));
+        highest = λ j l g. (let q : j ≡ from = omega arith in inr (ap (keyAt table) q ∙ sym e, omega arith));
       }
 
   module _ (least most last i : ℕ) (s : Spanned least most last i) where
@@ -67,16 +67,16 @@ module _ (table : List ℕ) (from to : ℕ) where
         }
 
     -- p is where the next token stands
-    module _ (h : i < to) (p : ℕ) (ep : p ≡ placeAt table i) (least′ : ℕ) (low : least′ ≤ least) (own : least′ ≤ p) where
-      lower : (j : ℕ) → from ≤ j → j < i + 1 → least′ ≤ placeAt table j
+    module _ (h : i < to) (p : ℕ) (ep : p ≡ keyAt table i) (least′ : ℕ) (low : least′ ≤ least) (own : least′ ≤ p) where
+      lower : (j : ℕ) → from ≤ j → j < i + 1 → least′ ≤ keyAt table j
       lower j l g =
-          below-more (λ (k : ℕ). from ≤ k → least′ ≤ placeAt table k) i (λ k a b. (let z = s .lowest k b a in omega arith)) (λ _. omega (arith, ep)) j g l
+          below-more (λ (k : ℕ). from ≤ k → least′ ≤ keyAt table k) i (λ k a b. (let z = s .lowest k b a in omega arith)) (λ _. omega (arith, ep)) j g l
 
-      higher : most ≤ p → (j : ℕ) → from ≤ j → j < i → (placeAt table j < most) ⊎ ((placeAt table j ≡ most) × (j ≤ last)) → (placeAt table j < p) ⊎ ((placeAt table j ≡ p) × (j ≤ i))
+      higher : most ≤ p → (j : ℕ) → from ≤ j → j < i → (keyAt table j < most) ⊎ ((keyAt table j ≡ most) × (j ≤ last)) → (keyAt table j < p) ⊎ ((keyAt table j ≡ p) × (j ≤ i))
       higher m j l g (inl a) = inl (omega arith)
       higher m j l g (inr a) = go (eq-or-lt-of-le m)
         where
-          go : (most ≡ p) ⊎ (most < p) → (placeAt table j < p) ⊎ ((placeAt table j ≡ p) × (j ≤ i))
+          go : (most ≡ p) ⊎ (most < p) → (keyAt table j < p) ⊎ ((keyAt table j ≡ p) × (j ≤ i))
           go (inl q) = inr (a .0 ∙ q, omega arith)
           go (inr q) = inl (omega (arith, a .0))
 
@@ -89,7 +89,7 @@ module _ (table : List ℕ) (from to : ℕ) where
             at = ep;
             lowest = lower;
             highest = λ j l g.
-                below-more (λ (k : ℕ). from ≤ k → (placeAt table k < p) ⊎ ((placeAt table k ≡ p) × (k ≤ i))) i (λ k a b. higher m k b a (s .highest k b a))
+                below-more (λ (k : ℕ). from ≤ k → (keyAt table k < p) ⊎ ((keyAt table k ≡ p) × (k ≤ i))) i (λ k a b. higher m k b a (s .highest k b a))
                 (λ _. inr (sym ep, omega arith)) j g l;
           }
 
@@ -102,7 +102,7 @@ module _ (table : List ℕ) (from to : ℕ) where
             at = s .at;
             lowest = lower;
             highest = λ j l g.
-                below-more (λ (k : ℕ). from ≤ k → (placeAt table k < most) ⊎ ((placeAt table k ≡ most) × (k ≤ last))) i (λ k a b. s .highest k b a)
+                below-more (λ (k : ℕ). from ≤ k → (keyAt table k < most) ⊎ ((keyAt table k ≡ most) × (k ≤ last))) i (λ k a b. s .highest k b a)
                 (λ _. inl (omega (arith, ep))) j g l;
           }
 
@@ -110,26 +110,26 @@ module _ (table : List ℕ) (from to : ℕ) where
 module _ (table : List ℕ) (line col from to : ℕ) (b : Block) (part : Between table from to) (s : Spans table from to b) (found : ℕ)
     (ef : found ≡ indexOf (bestOf table line col from)) where
   -- where a token that fits stands
-  stands : (j : ℕ) → fits table line col j ≡ true → (placeOf line 0 ≤ placeAt table j) × (placeAt table j ≤ placeOf line col)
+  stands : (j : ℕ) → fits table line col j ≡ true → (keyOf line 0 ≤ keyAt table j) × (keyAt table j ≤ keyOf line col)
   stands j f = let q = fits-says table line col j f in (omega (arith, q .0, q .1), omega (arith, q .0, q .1))
 
-  pub all-after : placeOf line col < b .least → found ≡ indexOf (bestOf table line col to)
+  pub all-after : keyOf line col < b .least → found ≡ indexOf (bestOf table line col to)
   all-after h =
       ef ∙ ap indexOf (sym (passed table line col from to (part .rises) (λ j l g f. (let z = stands j f in let y = s .lowest j l g in omega (arith, z .1)))))
 
-  at-most : (j : ℕ) → from ≤ j → j < to → placeAt table j ≤ b .most
+  at-most : (j : ℕ) → from ≤ j → j < to → keyAt table j ≤ b .most
   at-most j l g = go (s .highest j l g)
     where
-      go : (placeAt table j < b .most) ⊎ ((placeAt table j ≡ b .most) × (j ≤ b .last)) → placeAt table j ≤ b .most
+      go : (keyAt table j < b .most) ⊎ ((keyAt table j ≡ b .most) × (j ≤ b .last)) → keyAt table j ≤ b .most
       go (inl a) = omega arith
       go (inr a) = omega (arith, a .0)
 
-  pub all-before : b .most < placeOf line 0 → found ≡ indexOf (bestOf table line col to)
+  pub all-before : b .most < keyOf line 0 → found ≡ indexOf (bestOf table line col to)
   all-before h =
       ef ∙ ap indexOf (sym (passed table line col from to (part .rises) (λ j l g f. (let z = stands j f in let y = at-most j l g in omega (arith, z .0)))))
 
   -- the block's greatest position is on the asked line, and not past the asked column
-  module _ (on : placeOf line 0 ≤ b .most) (up : b .most ≤ placeOf line col) (small : col < 4294967296) (cols : (j : ℕ) → tokenAt table j .«dst_col» < 4294967296) where
+  module _ (on : keyOf line 0 ≤ b .most) (up : b .most ≤ keyOf line col) (small : col < 4294967296) (cols : (j : ℕ) → tokenAt table j .«dst_col» < 4294967296) where
     last-line : tokenAt table (b .last) .«dst_line» ≡ line
     last-line = let z = cols (b .last) in omega (arith, s .at)
 
@@ -139,7 +139,7 @@ module _ (table : List ℕ) (line col from to : ℕ) (b : Block) (part : Between
     last-fits : fits table line col (b .last) ≡ true
     last-fits = rw (eq-eqb (tokenAt table (b .last) .«dst_line») line last-line) (le-leb (tokenAt table (b .last) .«dst_col») col last-col)
 
-    by-column : (j : ℕ) → tokenAt table j .«dst_line» ≡ line → (placeAt table j < b .most) ⊎ ((placeAt table j ≡ b .most) × (j ≤ b .last)) → NotAfter table j (b .last)
+    by-column : (j : ℕ) → tokenAt table j .«dst_line» ≡ line → (keyAt table j < b .most) ⊎ ((keyAt table j ≡ b .most) × (j ≤ b .last)) → NotAfter table j (b .last)
     by-column j e (inl a) = inl (omega (arith, e, s .at, last-line))
     by-column j e (inr a) = inr (let q : tokenAt table j .«dst_col» ≡ tokenAt table (b .last) .«dst_col» = omega (arith, e, a .0, s .at, last-line) in q, a .1)
 
@@ -160,13 +160,13 @@ module _ (table : List ℕ) (line col from to : ℕ) (b : Block) (part : Between
       on-line : tokenAt table found .«dst_line» ≡ line
       on-line = fits-says table line col found (subst (Among table line col from) was (among table line col from) .1 .0) .0
 
-      pub keeps-earlier : b .most < placeAt table found → found ≡ indexOf (bestOf table line col to)
+      pub keeps-earlier : b .most < keyAt table found → found ≡ indexOf (bestOf table line col to)
       keeps-earlier h =
           sym
           (ap indexOf
           (earlier-kept table line col from to (part .rises) (b .last) (s .begins) (s .ends) last-fits last-best found was (omega (arith, s .at, last-line, on-line))))
 
-      pub takes-later : placeAt table found ≤ b .most → b .last ≡ indexOf (bestOf table line col to)
+      pub takes-later : keyAt table found ≤ b .most → b .last ≡ indexOf (bestOf table line col to)
       takes-later h =
           sym
           (ap indexOf

@@ -12,20 +12,20 @@ use Rattle.lookup_many.specs.declared.Block.{Block}
 use Rattle.lookup_many.specs.Many.{pairs, lineOf, colOf}
 
 -- a position as one number, in the order of line, then column
-abbrev pub placeOf : ℕ → ℕ → ℕ
-placeOf line col = line * 4294967296 + col
+abbrev pub keyOf : ℕ → ℕ → ℕ
+keyOf line col = line * 4294967296 + col
 
 -- where the i-th token stands
-abbrev pub placeAt : List ℕ → ℕ → ℕ
-placeAt table i = placeOf (tokenAt table i .«dst_line») (tokenAt table i .«dst_col»)
+abbrev pub keyAt : List ℕ → ℕ → ℕ
+keyAt table i = keyOf (tokenAt table i .«dst_line») (tokenAt table i .«dst_col»)
 
 -- of the tokens from `from` up to `to`: none stands before the least; the last stands at the most, and none comes after it
 pub record Spans (table : List ℕ) (from to : ℕ) (b : Block) : Type 0 where
   pub begins : from ≤ b .last
   pub ends : b .last < to
-  pub at : b .most ≡ placeAt table (b .last)
-  pub lowest : (j : ℕ) → from ≤ j → j < to → b .least ≤ placeAt table j
-  pub highest : (j : ℕ) → from ≤ j → j < to → (placeAt table j < b .most) ⊎ ((placeAt table j ≡ b .most) × (j ≤ b .last))
+  pub at : b .most ≡ keyAt table (b .last)
+  pub lowest : (j : ℕ) → from ≤ j → j < to → b .least ≤ keyAt table j
+  pub highest : (j : ℕ) → from ≤ j → j < to → (keyAt table j < b .most) ⊎ ((keyAt table j ≡ b .most) × (j ≤ b .last))
 
 -- of each pair, the best token before i; the places past the pairs are as they were
 pub record Held (table positions : List ℕ) (i : ℕ) (before found : List ℕ) : Type 0 where

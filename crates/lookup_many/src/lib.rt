@@ -8,8 +8,8 @@ ghost use lib.ListN.{length};
 ghost use Rattle.token.specs.Table.{places, badTable};
 ghost use Rattle.lookup.specs.Lookup.{bestOf};
 ghost use Rattle.lookup.specs.Parts.{Between, indexOf};
-ghost use Rattle.lookup_many.specs.Many.{pairs, oddList, manyTo, LooksMany};
-ghost use Rattle.lookup_many.specs.Blocks.{placeOf, placeAt, Spans, Held};
+ghost use Rattle.lookup_many.specs.Many.{pairs, manyTo, LooksMany};
+ghost use Rattle.lookup_many.specs.Blocks.{keyOf, keyAt, Spans, Held};
 
 // So many tokens are looked at together.
 const BLOCK: usize = 64;
@@ -22,19 +22,19 @@ struct Block {
 }
 
 // A position as one number, in the order of line, then column.
-fn place_of(line: u32, col: u32) -> u64
-    ensures { λ r. ⌜ r ≡ placeOf line col ⌝ }
+fn key_of(line: u32, col: u32) -> u64
+    ensures { λ r. ⌜ r ≡ keyOf line col ⌝ }
 {
     (line as u64) * 4294967296 + (col as u64)
 }
 
 // Where the i-th token stands.
-fn place_at(table: &[u32], i: usize) -> u64
+fn key_at(table: &[u32], i: usize) -> u64
     requires { ⌜ i < places (length (now table)) ⌝ }
-    ensures { λ r. ⌜ r ≡ placeAt (now (table .entry)) i ⌝ }
+    ensures { λ r. ⌜ r ≡ keyAt (now (table .entry)) i ⌝ }
 {
     let t = token::token_at(table, i);
-    place_of(t.dst_line, t.dst_col)
+    key_of(t.dst_line, t.dst_col)
 }
 
 // The tokens from `from` up to `to`; there is at least one.
@@ -42,13 +42,13 @@ fn block_of(table: &[u32], from: usize, to: usize) -> Block
     requires { ⌜ Between (now table) from to × (from < to) ⌝ }
     ensures { λ r. ⌜ Spans (now (table .entry)) from to r ⌝ }
 {
-    let first = place_at(table, from);
+    let first = key_at(table, from);
     let mut least = first;
     let mut most = first;
     let mut last = from;
     let mut i = from + 1;
     while i < to {
-        let p = place_at(table, i);
+        let p = key_at(table, i);
         if p < least {
             least = p;
         }
@@ -80,11 +80,11 @@ fn past_block(
     requires { ⌜ Between (now table) from to × (Spans (now table) from to b × (found ≡ indexOf (bestOf (now table) line col from))) ⌝ }
     ensures { λ r. ⌜ r ≡ indexOf (bestOf (now (table .entry)) line col to) ⌝ }
 {
-    let asked = place_of(line, col);
+    let asked = key_of(line, col);
     if asked < b.least {
         return found;
     }
-    if b.most < place_of(line, 0) {
+    if b.most < key_of(line, 0) {
         return found;
     }
     if asked < b.most {
@@ -94,7 +94,7 @@ fn past_block(
     if found == NONE {
         return last;
     }
-    if b.most < place_at(table, found as usize) {
+    if b.most < key_at(table, found as usize) {
         return found;
     }
     last

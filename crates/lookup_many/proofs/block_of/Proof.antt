@@ -7,7 +7,7 @@ use Rattle.lookup_many.proofs.block_of.Statement.{statement}
 use Rattle.lookup_many.proofs.block_of.Tie as tie
 use Rattle.lookup_many.proofs.block_of.Reads as reads
 use Rattle.lookup_many.proofs.block_of.Lts as lts
-use Rattle.lookup_many.proofs.place_at.Reads as place-at-reads
+use Rattle.lookup_many.proofs.key_at.Reads as key-at-reads
 
 abbrev Inv-loop : tie.InvT-loop
 Inv-loop table from to first least₀ most₀ last₀ i₀ least most last i = Spanned table from to least most last i
@@ -16,8 +16,8 @@ abbrev μ-loop : tie.MeasureT-loop
 μ-loop table from to first least₀ most₀ last₀ i₀ least most last i = to - i
 
 -- src/lib.rt:45:9
-place-at-requires : tie.Need-place-at-requires Inv-loop μ-loop
-place-at-requires c κs = omega (arith, c .before .pre .0 .within, c .before .pre .1)
+key-at-requires : tie.Need-key-at-requires Inv-loop μ-loop
+key-at-requires c κs = omega (arith, c .before .pre .0 .within, c .before .pre .1)
 
 -- src/lib.rt:49:17
 add-i : tie.Need-add-i Inv-loop μ-loop
@@ -25,11 +25,11 @@ add-i c = omega (arith, c .before .before .pre .1, c .before .before .fits .to)
 
 -- src/lib.rt:50:5
 loop-holds : tie.Need-loop-holds Inv-loop μ-loop
-loop-holds c = first _ _ _ (c .before .before .pre .1) _ (c .place-at .ensures)
+loop-holds c = first _ _ _ (c .before .before .pre .1) _ (c .key-at .ensures)
 
 -- src/lib.rt:51:13
-place-at-requires-2 : tie.Need-place-at-requires-2 Inv-loop μ-loop
-place-at-requires-2 c κs = inside _ _ _ _ _ _ _ (c .before .loop .inv) (c .loop-test .taken) (c .before .before .before .before .pre .0)
+key-at-requires-2 : tie.Need-key-at-requires-2 Inv-loop μ-loop
+key-at-requires-2 c κs = inside _ _ _ _ _ _ _ (c .before .loop .inv) (c .loop-test .taken) (c .before .before .before .before .pre .0)
 
 -- src/lib.rt:59:9
 add-i-2 : tie.Need-add-i-2 Inv-loop μ-loop
@@ -43,12 +43,12 @@ loop-less c = omega arith
 loop-again : tie.Need-loop-again Inv-loop μ-loop
 loop-again c = ⊎-elim
     (λ v. ⊎-elim
-    (λ w. rw (w .1, w .2) (takes _ _ _ _ _ _ _ (c .before .before .before .before .loop .inv) (c .before .before .before .loop-test .taken) _ (c .before .before .place-at2 .ensures) _ (omega (arith, v .0 .taken, v .1)) (omega (arith, v .1)) (w .0 .taken)))
-    (λ w. rw (w .1, w .2) (leaves _ _ _ _ _ _ _ (c .before .before .before .before .loop .inv) (c .before .before .before .loop-test .taken) _ (c .before .before .place-at2 .ensures) _ (omega (arith, v .0 .taken, v .1)) (omega (arith, v .1)) (w .0 .left)))
+    (λ w. rw (w .1, w .2) (takes _ _ _ _ _ _ _ (c .before .before .before .before .loop .inv) (c .before .before .before .loop-test .taken) _ (c .before .before .key-at2 .ensures) _ (omega (arith, v .0 .taken, v .1)) (omega (arith, v .1)) (w .0 .taken)))
+    (λ w. rw (w .1, w .2) (leaves _ _ _ _ _ _ _ (c .before .before .before .before .loop .inv) (c .before .before .before .loop-test .taken) _ (c .before .before .key-at2 .ensures) _ (omega (arith, v .0 .taken, v .1)) (omega (arith, v .1)) (w .0 .left)))
     (c .if2 .came))
     (λ v. ⊎-elim
-    (λ w. rw (w .1, w .2) (takes _ _ _ _ _ _ _ (c .before .before .before .before .loop .inv) (c .before .before .before .loop-test .taken) _ (c .before .before .place-at2 .ensures) _ (omega (arith, v .1)) (omega (arith, v .0 .left, v .1)) (w .0 .taken)))
-    (λ w. rw (w .1, w .2) (leaves _ _ _ _ _ _ _ (c .before .before .before .before .loop .inv) (c .before .before .before .loop-test .taken) _ (c .before .before .place-at2 .ensures) _ (omega (arith, v .1)) (omega (arith, v .0 .left, v .1)) (w .0 .left)))
+    (λ w. rw (w .1, w .2) (takes _ _ _ _ _ _ _ (c .before .before .before .before .loop .inv) (c .before .before .before .loop-test .taken) _ (c .before .before .key-at2 .ensures) _ (omega (arith, v .1)) (omega (arith, v .0 .left, v .1)) (w .0 .taken)))
+    (λ w. rw (w .1, w .2) (leaves _ _ _ _ _ _ _ (c .before .before .before .before .loop .inv) (c .before .before .before .loop-test .taken) _ (c .before .before .key-at2 .ensures) _ (omega (arith, v .1)) (omega (arith, v .0 .left, v .1)) (w .0 .left)))
     (c .if2 .came))
     (c .before .if1 .came)
 
@@ -66,10 +66,10 @@ block-of-spec =
     (tie.spec
     Inv-loop
     μ-loop
-    place-at-requires
+    key-at-requires
     add-i
     loop-holds
-    place-at-requires-2
+    key-at-requires-2
     add-i-2
     loop-less
     loop-again

@@ -230,7 +230,8 @@ pgk_answer pgk_lookup(const uint32_t *table, size_t table_len, uint32_t line, ui
  *   PGK_NO_ROOM    found has fewer places than there are positions; the number says how many are needed
  * Places past the positions are kept. found must not overlap table or positions; those two are only read.
  * The table may be in any order. Hand in the written part only, as to pgk_lookup. Cost: the table is read once for all
- * positions, in blocks of 64 tokens; a block is read again only for a position that lies within it. */
+ * positions, in blocks of 64 tokens; a block is read again only for a position that lies within it. For one or two
+ * positions pgk_lookup is quicker. */
 pgk_answer pgk_lookup_many(const uint32_t *table, size_t table_len, const uint32_t *positions, size_t positions_len,
     uint32_t *found, size_t found_len);
 

@@ -420,7 +420,7 @@ pub fn lookup_token(table: &[u32], line: u32, col: u32) -> Result<Option<Token>,
 /// shown.
 ///
 /// Hand in the part of the table that was [`written`]. It is read once for all positions, in blocks of 64 tokens, and a block
-/// is read again only for a position that lies within it.
+/// is read again only for a position that lies within it. For one or two positions [`lookup_index`] is quicker.
 ///
 /// ```
 /// use peghayrick::{lookup_many, table_of, Position, Refusal, Token, NONE};

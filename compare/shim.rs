@@ -28,6 +28,7 @@ unsafe extern "C" {
     fn raw_pgk_translate_tokens(r: *mut Words<2>, table: &Fat, line: u32, source: u32, name: u32);
     fn raw_pgk_lookup(r: *mut Words<2>, table: &Fat, line: u32, col: u32);
     fn raw_pgk_lookup_many(r: *mut Words<2>, table: &Fat, positions: &Fat, found: &Fat);
+    fn raw_pgk_lookup_many_quick(r: *mut Words<2>, table: &Fat, positions: &Fat, found: &Fat);
     fn raw_pgk_table_size(text: &Fat) -> u64;
     fn raw_pgk_meets_premises(table: &Fat, sources: u32, names: u32) -> u64;
     fn raw_pgk_meets_checked_premises(table: &Fat, sources: u32, names: u32) -> u64;
@@ -97,6 +98,18 @@ pub unsafe extern "C" fn pgk_lookup_many(
     k: usize,
 ) -> Words<2> {
     answered(|r| unsafe { raw_pgk_lookup_many(r, &fat((table, n)), &fat((positions, p)), &fat((found, k))) })
+}
+
+#[unsafe(no_mangle)]
+pub unsafe extern "C" fn pgk_lookup_many_quick(
+    table: *const u8,
+    n: usize,
+    positions: *const u8,
+    p: usize,
+    found: *const u8,
+    k: usize,
+) -> Words<2> {
+    answered(|r| unsafe { raw_pgk_lookup_many_quick(r, &fat((table, n)), &fat((positions, p)), &fat((found, k))) })
 }
 
 #[unsafe(no_mangle)]

@@ -24,7 +24,7 @@ fn same<T: PartialEq + std::fmt::Debug>(what: &str, got: T, want: T) -> Result<(
 }
 
 unsafe extern "C" {
-    fn memfd_create(name: *const i8, flags: u32) -> i32;
+    fn memfd_create(name: *const std::ffi::c_char, flags: u32) -> i32;
     fn mmap(at: *mut u8, len: usize, protection: i32, flags: i32, file: i32, offset: i64) -> *mut u8;
     fn munmap(at: *mut u8, len: usize) -> i32;
 }

@@ -9,7 +9,7 @@ ghost use Rattle.token.specs.Table.{places, badTable};
 ghost use Rattle.lookup.specs.Lookup.{bestOf};
 ghost use Rattle.lookup.specs.Parts.{Between, indexOf};
 ghost use Rattle.lookup_many.specs.Many.{pairs, manyTo, LooksMany};
-ghost use Rattle.lookup_many.specs.Blocks.{keyOf, keyAt, Spans, Held};
+ghost use Rattle.lookup_many.specs.Blocks.{Spans, Held};
 
 // So many tokens are looked at together.
 const BLOCK: usize = 64;
@@ -21,34 +21,18 @@ struct Block {
     last: u32,
 }
 
-// A position as one number, in the order of line, then column.
-fn key_of(line: u32, col: u32) -> u64
-    ensures { λ r. ⌜ r ≡ keyOf line col ⌝ }
-{
-    (line as u64) * 4294967296 + (col as u64)
-}
-
-// Where the i-th token stands.
-fn key_at(table: &[u32], i: usize) -> u64
-    requires { ⌜ i < places (length (now table)) ⌝ }
-    ensures { λ r. ⌜ r ≡ keyAt (now (table .entry)) i ⌝ }
-{
-    let t = token::token_at(table, i);
-    key_of(t.dst_line, t.dst_col)
-}
-
 // The tokens from `from` up to `to`; there is at least one.
 fn block_of(table: &[u32], from: usize, to: usize) -> Block
     requires { ⌜ Between (now table) from to × (from < to) ⌝ }
     ensures { λ r. ⌜ Spans (now (table .entry)) from to r ⌝ }
 {
-    let first = key_at(table, from);
+    let first = order::key_at(table, from);
     let mut least = first;
     let mut most = first;
     let mut last = from;
     let mut i = from + 1;
     while i < to {
-        let p = key_at(table, i);
+        let p = order::key_at(table, i);
         if p < least {
             least = p;
         }
@@ -80,11 +64,11 @@ fn past_block(
     requires { ⌜ Between (now table) from to × (Spans (now table) from to b × (found ≡ indexOf (bestOf (now table) line col from))) ⌝ }
     ensures { λ r. ⌜ r ≡ indexOf (bestOf (now (table .entry)) line col to) ⌝ }
 {
-    let asked = key_of(line, col);
+    let asked = order::key_of(line, col);
     if asked < b.least {
         return found;
     }
-    if b.most < key_of(line, 0) {
+    if b.most < order::key_of(line, 0) {
         return found;
     }
     if asked < b.most {
@@ -94,7 +78,7 @@ fn past_block(
     if found == NONE {
         return last;
     }
-    if b.most < key_at(table, found as usize) {
+    if b.most < order::key_at(table, found as usize) {
         return found;
     }
     last
@@ -131,7 +115,7 @@ fn none_yet(table: &[u32], positions: &[u32], found: &mut [u32])
 }
 
 // What the call answers, by the lengths alone.
-fn code_for(table: &[u32], positions: &[u32], room: usize) -> Code
+pub fn code_for(table: &[u32], positions: &[u32], room: usize) -> Code
     ensures { λ r. ⌜ r ≡ manyTo (now (table .entry)) (now (positions .entry)) room ⌝ }
 {
     if token::bad_table(table.len()) {
@@ -149,7 +133,7 @@ fn code_for(table: &[u32], positions: &[u32], room: usize) -> Code
 }
 
 // All blocks, one after another.
-fn look_all(table: &[u32], positions: &[u32], found: &mut [u32])
+pub fn look_all(table: &[u32], positions: &[u32], found: &mut [u32])
     requires { ⌜ (badTable (length (now table)) ≡ false) × (pairs (length (now positions)) ≤ length (now found)) ⌝ }
     ensures { λ _. ⌜ Held (now (table .entry)) (now (positions .entry)) (places (length (now (table .entry)))) (now (found .entry)) (now (found .exit)) ⌝ }
 {

@@ -21,9 +21,9 @@ pub record Goes {A B : Type 0} (P : A → Type 0) (form : A → B) (r : B) : Typ
   pub holds : P inner
   pub says : r ≡ form inner
 
--- 0.7.0: major, minor and patch, three figures each
+-- 0.8.0: major, minor and patch, three figures each
 abbrev pub version : ℕ
-version = 7000
+version = 8000
 
 -- 1 for yes
 abbrev pub flag : Bool → ℕ

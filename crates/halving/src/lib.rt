@@ -1,21 +1,22 @@
 // Finds the token at a position in a sorted table, by tokens that the position is held against.
 use token::NONE;
 ghost use mathlib.Core.Path.{_≡_};
-ghost use Prim.Native.Nat.{_-_, _*_, _/_, _<_, _≤_};
-ghost use lib.Dec.{leb};
+ghost use mathlib.Core.Bool.{false};
+ghost use Prim.Native.Nat.{_+_, _-_, _*_, _/_, _<_, _≤_};
+ghost use lib.Dec.{ltb};
 ghost use lib.ListN.{length};
 ghost use Rattle.list.specs.Pick.{pick};
-ghost use Rattle.token.specs.Table.{places};
+ghost use Rattle.token.specs.Table.{places, badTable};
 ghost use Rattle.order.specs.Keys.{keyOf, keyAt, Rising};
 ghost use Rattle.lookup.specs.Lookup.{lookupOf};
 ghost use Rattle.lookup.specs.Parts.{indexOf};
-ghost use Rattle.halving.specs.Within.{Within};
+ghost use Rattle.halving.specs.Within.{countOf, Within};
 
 // 1 where the i-th token is at or before the position, else 0. What is counted is no branch: whether a token is past the position is as
 // good as random.
 fn counted(table: &[u32], i: usize, asked: u64) -> usize
     requires { ⌜ i < places (length (now table)) ⌝ }
-    ensures { λ r. ⌜ r ≡ pick (leb (keyAt (now (table .entry)) i) asked) 1 0 ⌝ }
+    ensures { λ r. ⌜ r ≡ countOf (keyAt (now (table .entry)) i) asked ⌝ }
 {
     if order::key_at(table, i) <= asked {
         return 1;
@@ -35,19 +36,33 @@ pub fn quartered(table: &[u32], base: usize, size: usize, asked: u64) -> usize
     base + part * (first + second + third)
 }
 
+// The same for the k-th behind `base`, where there are so many.
+fn counted_of(table: &[u32], base: usize, k: usize, size: usize, asked: u64) -> usize
+    requires { ⌜ base + size ≤ places (length (now table)) ⌝ }
+    ensures { λ r. ⌜ r ≡ pick (ltb k size) (countOf (keyAt (now (table .entry)) (base + k)) asked) 0 ⌝ }
+{
+    if k < size {
+        return counted(table, base + k, asked);
+    }
+    0
+}
+
+// Of the three tokens at the most that are left, the one that the position leads to.
+fn last_of_few(table: &[u32], base: usize, size: usize, asked: u64) -> usize
+    requires { ⌜ (Rising (now table) × (size ≤ 3)) × Within (now table) asked base size ⌝ }
+    ensures { λ r. ⌜ Within (now (table .entry)) asked r 1 ⌝ }
+{
+    let second = counted_of(table, base, 1, size, asked);
+    let third = counted_of(table, base, 2, size, asked);
+    base + second + third
+}
+
 // The token at a position, of the three at the most that are left; NONE where there is none.
 pub fn best_of_few(table: &[u32], base: usize, size: usize, line: u32, col: u32) -> u32
-    requires { ⌜ (Rising (now table) × (size ≤ 3)) × Within (now table) (keyOf line col) base size ⌝ }
+    requires { ⌜ ((badTable (length (now table)) ≡ false) × (Rising (now table) × (size ≤ 3))) × Within (now table) (keyOf line col) base size ⌝ }
     ensures { λ r. ⌜ r ≡ indexOf (lookupOf (now (table .entry)) line col) ⌝ }
 {
-    let asked = order::key_of(line, col);
-    let mut last = base;
-    if 1 < size {
-        last += counted(table, base + 1, asked);
-    }
-    if 2 < size {
-        last += counted(table, base + 2, asked);
-    }
+    let last = last_of_few(table, base, size, order::key_of(line, col));
     let t = token::token_at(table, last);
     if t.dst_line != line {
         return NONE;

@@ -99,6 +99,16 @@ module _ (table : List ℕ) (line col : ℕ) where
   one-among n (some i) none a b = absurd (b i (a .0) (a .1 .0))
   one-among n (some i) (some j) a b = ap some (same i j (b .1 .1 i (a .0) (a .1 .0)) (a .1 .1 j (b .0) (b .1 .0)))
 
+  -- the best is what is computed
+  pub is-best : (i : ℕ) → Best table line col i → lookupOf table line col ≡ some i
+  is-best i b =
+      one-among (places (length table)) (lookupOf table line col) (some i) (among (places (length table)))
+      (b .fits .within, (holds i (b .fits), λ j h g. b .most j (held j h g)))
+
+  pub is-none : ((j : ℕ) → Fits table line col j → ⊥) → lookupOf table line col ≡ none
+  is-none n =
+      one-among (places (length table)) (lookupOf table line col) none (among (places (length table))) (λ j h g. n j (held j h g))
+
   -- the computed answer is one
   pub looks : badTable (length table) ≡ false → (o : Option ℕ) → lookupOf table line col ≡ o → Looks table line col (foundOf o)
   looks f none e = ((λ t. never (sym t ∙ f)), nothing e)

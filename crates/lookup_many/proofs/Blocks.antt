@@ -8,23 +8,19 @@ use Prim.Native.Nat.{ℕ, _+_, _*_, _<_, _≤_}
 use native.Mathlib.Omega.{arith}
 use native.Mathlib.Nat.{eq-or-lt-of-le}
 use lib.Dec.{eqb, leb}
-use lib.ListN.{length, getD}
+use lib.ListN.{length}
 use borrow.Author.Count.{below-more}
 use borrow.Author.Tests.{eq-eqb, le-leb}
-use Rattle.token.specs.Table.{width, places, badTable, tokenAt}
+use Rattle.token.specs.Table.{places, badTable, tokenAt}
 use Rattle.token.proofs.Whole.{few}
+use Rattle.order.specs.Keys.{keyOf, keyAt}
 use Rattle.lookup.specs.Lookup.{NotAfter, fits, bestOf}
 use Rattle.lookup.specs.Parts.{Between, indexOf}
 use Rattle.lookup.proofs.Best.{Among, among}
 use Rattle.lookup.proofs.Scan.{some-index, none-index, index-small, found-inside}
 use Rattle.lookup.proofs.Part.{fits-says, passed, first-found, later-found, earlier-kept}
-use Rattle.lookup_many.specs.Blocks.{keyOf, keyAt, Spans}
+use Rattle.lookup_many.specs.Blocks.{Spans}
 use Rattle.lookup_many.specs.declared.Block.{Block}
-
--- a table's numbers have 32 bits
-pub narrow : (table : List ℕ) → ((i : ℕ) → getD table i 0 < 4294967296) → (j : ℕ) → tokenAt table j .«dst_col» < 4294967296
-unfolding tokenAt
-narrow table h j = h (width * j + 1)
 
 -- ---- finding it: at turn i, of the tokens from `from` up to i
 module _ (table : List ℕ) (from to : ℕ) where

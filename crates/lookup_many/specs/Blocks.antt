@@ -3,21 +3,13 @@
 use mathlib.Core.Path.{_≡_}
 use mathlib.Core.Logic.{_⊎_}
 use mathlib.Core.List.{List}
-use Prim.Native.Nat.{ℕ, _+_, _*_, _≤_, _<_}
+use Prim.Native.Nat.{ℕ, _≤_, _<_}
 use lib.ListN.{length, drop, getD}
-use Rattle.token.specs.Table.{tokenAt}
+use Rattle.order.specs.Keys.{keyAt}
 use Rattle.lookup.specs.Lookup.{bestOf}
 use Rattle.lookup.specs.Parts.{Between, indexOf}
 use Rattle.lookup_many.specs.declared.Block.{Block}
 use Rattle.lookup_many.specs.Many.{pairs, lineOf, colOf}
-
--- a position as one number, in the order of line, then column
-abbrev pub keyOf : ℕ → ℕ → ℕ
-keyOf line col = line * 4294967296 + col
-
--- where the i-th token stands
-abbrev pub keyAt : List ℕ → ℕ → ℕ
-keyAt table i = keyOf (tokenAt table i .«dst_line») (tokenAt table i .«dst_col»)
 
 -- of the tokens from `from` up to `to`: none stands before the least; the last stands at the most, and none comes after it
 pub record Spans (table : List ℕ) (from to : ℕ) (b : Block) : Type 0 where

@@ -7,7 +7,7 @@ use Rattle.lookup_many.proofs.block_of.Statement.{statement}
 use Rattle.lookup_many.proofs.block_of.Tie as tie
 use Rattle.lookup_many.proofs.block_of.Reads as reads
 use Rattle.lookup_many.proofs.block_of.Lts as lts
-use Rattle.lookup_many.proofs.key_at.Reads as key-at-reads
+use Rattle.order.proofs.key_at.Reads as key-at-reads
 
 abbrev Inv-loop : tie.InvT-loop
 Inv-loop table from to first least₀ most₀ last₀ i₀ least most last i = Spanned table from to least most last i

@@ -1,15 +1,16 @@
 -- `lookup_many::past_block` meets its contract, by the laws of `Blocks`. Assumes nothing.
 use native.Mathlib.Omega.{arith}
+use Rattle.order.proofs.Rise.{narrow}
 use Rattle.lookup.proofs.Scan.{found-inside}
-use Rattle.lookup_many.proofs.Blocks.{narrow, all-after, all-before, found-first, keeps-earlier, takes-later}
+use Rattle.lookup_many.proofs.Blocks.{all-after, all-before, found-first, keeps-earlier, takes-later}
 use borrow.Author.Needs.{needs}
 use Rattle.lookup_many.proofs.past_block.Statement.{statement}
 use Rattle.lookup_many.proofs.past_block.Tie as tie
 use Rattle.lookup_many.proofs.past_block.Reads as reads
 use Rattle.lookup_many.proofs.past_block.Lts as lts
 use Rattle.lookup.proofs.best_in.Reads as best-in-reads
-use Rattle.lookup_many.proofs.key_at.Reads as key-at-reads
-use Rattle.lookup_many.proofs.key_of.Reads as key-of-reads
+use Rattle.order.proofs.key_at.Reads as key-at-reads
+use Rattle.order.proofs.key_of.Reads as key-of-reads
 
 -- src/lib.rt:82:9
 key-of-requires : tie.Need-key-of-requires

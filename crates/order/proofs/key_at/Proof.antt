@@ -1,13 +1,13 @@
--- `lookup_many::key_at` meets its contract. Assumes nothing.
+-- `order::key_at` meets its contract. Assumes nothing.
 use mathlib.Core.Path.{_∙_, ap}
 use Rattle.token.specs.declared.Token.{Token}
-use Rattle.lookup_many.specs.Blocks.{keyOf}
+use Rattle.order.specs.Keys.{keyOf}
 use borrow.Author.Needs.{needs}
-use Rattle.lookup_many.proofs.key_at.Statement.{statement}
-use Rattle.lookup_many.proofs.key_at.Tie as tie
-use Rattle.lookup_many.proofs.key_at.Reads as reads
-use Rattle.lookup_many.proofs.key_at.Lts as lts
-use Rattle.lookup_many.proofs.key_of.Reads as key-of-reads
+use Rattle.order.proofs.key_at.Statement.{statement}
+use Rattle.order.proofs.key_at.Tie as tie
+use Rattle.order.proofs.key_at.Reads as reads
+use Rattle.order.proofs.key_at.Lts as lts
+use Rattle.order.proofs.key_of.Reads as key-of-reads
 use Rattle.token.proofs.token_at.Reads as token-at-reads
 
 -- src/lib.rt:36:9

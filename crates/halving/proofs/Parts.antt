@@ -1,0 +1,206 @@
+-- The tokens that a position may lead to, fewer at each step, and what the last of them says. Assumes nothing.
+use mathlib.Core.Path.{_≡_, refl, sym, _∙_, ap, subst}
+use mathlib.Core.Bool.{Bool, true, false}
+use mathlib.Core.Logic.{inl, inr}
+use mathlib.Core.List.{List}
+use mathlib.Core.Option.{none, some}
+use Prim.Native.Nat.{ℕ, _+_, _*_, _-_, _/_, _<_, _≤_}
+use native.Mathlib.Omega.{arith}
+use native.Mathlib.Nat.{add-zero}
+use lib.Dec.{leb, ltb}
+use lib.ListN.{length}
+use borrow.Author.Tests.{leb-true, leb-false, le-leb, lt-leb, ltb-true, ltb-false}
+use Rattle.list.specs.Pick.{pick}
+use Rattle.token.specs.Table.{places, tokenAt}
+use Rattle.token.specs.declared.Token.{Token}
+use Rattle.order.specs.Keys.{keyOf, keyAt, Rising}
+use Rattle.order.specs.Order.{NeverFalls}
+use Rattle.order.proofs.Before.{not-before, up-key, before-key}
+use Rattle.lookup.specs.Lookup.{Fits, lookupOf}
+use Rattle.lookup.specs.Parts.{indexOf}
+use Rattle.lookup.proofs.Best.{is-best, is-none}
+use Rattle.halving.specs.Law.{LastUpTo}
+use Rattle.halving.specs.Within.{countOf, Within}
+use Rattle.halving.proofs.Law.{halves}
+
+-- a token counted
+module _ (a asked : ℕ) where
+  pub counted : a ≤ asked → 1 ≡ countOf a asked
+  unfolding countOf
+  counted h = rw (le-leb a asked h)
+
+  pub not-counted : asked < a → 0 ≡ countOf a asked
+  unfolding countOf
+  not-counted h = rw (lt-leb a asked h)
+
+  pub at-most : (r : ℕ) → r ≡ countOf a asked → r ≤ 1
+  unfolding countOf
+  at-most r e = by (leb a asked) e
+    where
+      by : (b : Bool) → r ≡ pick b 1 0 → r ≤ 1
+      by true q = omega (arith, q)
+      by false q = omega (arith, q)
+
+module _ (table : List ℕ) (rising : Rising table) (asked : ℕ) where
+  -- what a test of a token says
+  leads : (i : ℕ) → leb (keyAt table i) asked ≡ true → keyAt table i ≤ asked
+  leads i e = leb-true (keyAt table i) asked e
+
+  past : (i : ℕ) → leb (keyAt table i) asked ≡ false → asked < keyAt table i
+  past i e = leb-false (keyAt table i) asked e
+
+  -- past a token, every later one is past too
+  later : (i j : ℕ) → i ≤ j → j < places (length table) → leb (keyAt table i) asked ≡ false → asked < keyAt table j
+  later i j l h e = let z = past i e in let y = rising i j l h in omega arith
+
+  -- a token before one that is not past is not past either
+  never : {A : Type 0} (i j : ℕ) → i ≤ j → j < places (length table) → leb (keyAt table i) asked ≡ false → leb (keyAt table j) asked ≡ true → A
+  never i j l h e f = let z = later i j l h e in let y = leads j f in absurd (omega arith)
+
+  module _ (base size : ℕ) (w : Within table asked base size) where
+    pub inside : (k : ℕ) → k < size → base + k < places (length table)
+    inside k h = omega (arith, w .ends)
+
+    -- halved twice
+    module _ (part : ℕ) (some : 0 < part) (four : 4 * part ≤ size) where
+      made : (at base′ : ℕ) → base′ ≡ at → at + (size - 3 * part) ≤ base + size → (0 < at → keyAt table at ≤ asked)
+          → (at + (size - 3 * part) < places (length table) → asked < keyAt table (at + (size - 3 * part))) → Within table asked base′ (size - 3 * part)
+      made at base′ e g f t = rw e (record { some = omega arith; ends = omega (arith, w .ends); from = f; to = t })
+
+      to-end : (at : ℕ) → at + (size - 3 * part) ≡ base + size → at + (size - 3 * part) < places (length table) → asked < keyAt table (at + (size - 3 * part))
+      to-end at e h = subst (λ (m : ℕ). asked < keyAt table m) (sym e) (w .to (omega (arith, e)))
+
+      stepped : (a b c : Bool) → leb (keyAt table (base + part)) asked ≡ a → leb (keyAt table (base + 2 * part)) asked ≡ b
+          → leb (keyAt table (base + 3 * part)) asked ≡ c → Within table asked (base + part * (pick a 1 0 + pick b 1 0 + pick c 1 0)) (size - 3 * part)
+      stepped true true true x y z = made (base + 3 * part) _ (omega arith) (omega arith) (λ _. leads (base + 3 * part) z) (to-end (base + 3 * part) (omega arith))
+      stepped true true false x y z =
+          made (base + 2 * part) _ (omega arith) (omega arith) (λ _. leads (base + 2 * part) y)
+          (λ h. later (base + 3 * part) (base + 2 * part + (size - 3 * part)) (omega arith) h z)
+      stepped true false false x y z =
+          made (base + part) _ (omega arith) (omega arith) (λ _. leads (base + part) x)
+          (λ h. later (base + 2 * part) (base + part + (size - 3 * part)) (omega arith) h y)
+      stepped false false false x y z =
+          made base _ (omega arith) (omega arith) (w .from) (λ h. later (base + part) (base + (size - 3 * part)) (omega arith) h x)
+      stepped true false true x y z = never (base + 2 * part) (base + 3 * part) (omega arith) (inside (3 * part) (omega arith)) y z
+      stepped false true c x y z = never (base + part) (base + 2 * part) (omega arith) (inside (2 * part) (omega arith)) x y
+      stepped false false true x y z = never (base + part) (base + 3 * part) (omega arith) (inside (3 * part) (omega arith)) x z
+
+    -- as they are counted
+    pub quarter : 4 ≤ size → (r s t : ℕ) → r ≡ countOf (keyAt table (base + size / 4)) asked → s ≡ countOf (keyAt table (base + 2 * (size / 4))) asked
+        → t ≡ countOf (keyAt table (base + 3 * (size / 4))) asked → Within table asked (base + size / 4 * (r + s + t)) (size - 3 * (size / 4))
+    unfolding countOf
+    quarter h r s t er es et =
+        rw (er, es, et)
+        (stepped (size / 4) (omega arith) (omega arith) (leb (keyAt table (base + size / 4)) asked) (leb (keyAt table (base + 2 * (size / 4))) asked)
+        (leb (keyAt table (base + 3 * (size / 4))) asked) refl refl refl)
+
+    -- the last few
+    module _ (three : size ≤ 3) where
+      made-one : (at base′ : ℕ) → base′ ≡ at → at + 1 ≤ base + size → (0 < at → keyAt table at ≤ asked)
+          → (at + 1 < places (length table) → asked < keyAt table (at + 1)) → Within table asked base′ 1
+      made-one at base′ e g f t = rw e (record { some = omega arith; ends = omega (arith, w .ends); from = f; to = t })
+
+      ends-at : (at : ℕ) → at + 1 ≡ base + size → at + 1 < places (length table) → asked < keyAt table (at + 1)
+      ends-at at e h = subst (λ (m : ℕ). asked < keyAt table m) (sym e) (w .to (omega (arith, e)))
+
+      past-at : (at next : ℕ) → at + 1 ≡ next → leb (keyAt table next) asked ≡ false → at + 1 < places (length table) → asked < keyAt table (at + 1)
+      past-at at next e n h = subst (λ (m : ℕ). asked < keyAt table m) (sym e) (past next n)
+
+      few : (p q a b : Bool) → ltb 1 size ≡ p → ltb 2 size ≡ q → leb (keyAt table (base + 1)) asked ≡ a → leb (keyAt table (base + 2)) asked ≡ b
+          → Within table asked (base + pick p (pick a 1 0) 0 + pick q (pick b 1 0) 0) 1
+      few false true a b x y z u = absurd (let h = ltb-true 2 size y in let g = ltb-false 1 size x in omega arith)
+      few false false a b x y z u =
+          let g = ltb-false 1 size x in
+          made-one base _ (omega arith) (omega (arith, w .some)) (w .from) (ends-at base (omega (arith, w .some)))
+      few true false true b x y z u =
+          let h = ltb-true 1 size x in
+          let g = ltb-false 2 size y in
+          made-one (base + 1) _ (omega arith) (omega arith) (λ _. leads (base + 1) z) (ends-at (base + 1) (omega arith))
+      few true false false b x y z u =
+          let h = ltb-true 1 size x in
+          made-one base _ (omega arith) (omega arith) (w .from) (past-at base (base + 1) refl z)
+      few true true true true x y z u =
+          let h = ltb-true 2 size y in
+          made-one (base + 2) _ (omega arith) (omega arith) (λ _. leads (base + 2) u) (ends-at (base + 2) (omega arith))
+      few true true true false x y z u =
+          let h = ltb-true 2 size y in
+          made-one (base + 1) _ (omega arith) (omega arith) (λ _. leads (base + 1) z) (past-at (base + 1) (base + 2) (omega arith) u)
+      few true true false true x y z u =
+          let h = ltb-true 2 size y in
+          never (base + 1) (base + 2) (omega arith) (inside 2 (omega arith)) z u
+      few true true false false x y z u =
+          let h = ltb-true 2 size y in
+          made-one base _ (omega arith) (omega arith) (w .from) (past-at base (base + 1) refl z)
+
+      pub few-left : (r s : ℕ) → r ≡ pick (ltb 1 size) (countOf (keyAt table (base + 1)) asked) 0 → s ≡ pick (ltb 2 size) (countOf (keyAt table (base + 2)) asked) 0
+          → Within table asked (base + r + s) 1
+      unfolding countOf
+      few-left r s er es =
+          rw (er, es)
+          (few (ltb 1 size) (ltb 2 size) (leb (keyAt table (base + 1)) asked) (leb (keyAt table (base + 2)) asked) refl refl refl refl)
+
+-- ---- the one that is left
+module _ (table : List ℕ) (rising : Rising table) (cols : (j : ℕ) → tokenAt table j .«dst_col» < 4294967296) (line col asked last : ℕ) (small : col < 4294967296)
+    (is : asked ≡ keyOf line col) (left : Within table asked last 1) where
+  w : Within table (keyOf line col) last 1
+  w = subst (λ (a : ℕ). Within table a last 1) is left
+
+  never-falls : NeverFalls table (places (length table))
+  never-falls i j l h = not-before _ _ _ _ (up-key _ _ _ _ (cols i) (cols j) (rising i j l h))
+
+  all-past : (j : ℕ) → last < j → j < places (length table) → keyOf line col < keyAt table j
+  all-past j l h = let z = w .to (omega arith) in let y = rising (last + 1) j (omega arith) h in omega arith
+
+  is-last : keyAt table last ≤ keyOf line col → LastUpTo table line col last
+  is-last h =
+      record {
+        within = omega (arith, w .ends);
+        up-to = not-before _ _ _ _ (up-key _ _ _ _ (cols last) small h);
+        last = λ j l g. before-key _ _ _ _ (cols j) (all-past j l g);
+      }
+
+  -- a token that fits is not past the position
+  fits-up : (j : ℕ) → Fits table line col j → keyAt table j ≤ keyOf line col
+  fits-up j f = omega (arith, f .on, f .before)
+
+  none-fits : (keyAt table last ≤ keyOf line col → tokenAt table last .«dst_line» ≡ line → ⊥) → (j : ℕ) → Fits table line col j → ⊥
+  none-fits n = by (ltb (keyOf line col) (keyAt table last)) refl
+    where
+      by : (b : Bool) → ltb (keyOf line col) (keyAt table last) ≡ b → (j : ℕ) → Fits table line col j → ⊥
+      by false e =
+          let h = ltb-false (keyOf line col) (keyAt table last) e in
+          halves table line col last never-falls (is-last h) .none (n h)
+      by true e = λ j f.
+          (let h = ltb-true (keyOf line col) (keyAt table last) e in
+          let y = rising last j (first h) (f .within) in
+          let x = fits-up j f in
+          omega arith)
+        where
+          first : {j : ℕ} → keyOf line col < keyAt table last → last ≤ j
+          first h = at-start (ltb 0 last) refl
+            where
+              at-start : {j : ℕ} (b : Bool) → ltb 0 last ≡ b → last ≤ j
+              at-start true q = let z = w .from (ltb-true 0 last q) in absurd (omega arith)
+              at-start false q = let z = ltb-false 0 last q in omega arith
+
+  nothing : (keyAt table last ≤ keyOf line col → tokenAt table last .«dst_line» ≡ line → ⊥) → 4294967295 ≡ indexOf (lookupOf table line col)
+  nothing n = sym (ap indexOf (is-none table line col (none-fits n)))
+
+  -- t is the token as it was read
+  module _ (t : Token) (et : t ≡ tokenAt table last) where
+    line-is : t .«dst_line» ≡ tokenAt table last .«dst_line»
+    line-is = ap (λ (u : Token). u .«dst_line») et
+
+    col-is : t .«dst_col» ≡ tokenAt table last .«dst_col»
+    col-is = ap (λ (u : Token). u .«dst_col») et
+
+    pub other-line : (t .«dst_line» ≡ line → ⊥) → 4294967295 ≡ indexOf (lookupOf table line col)
+    other-line ne = nothing (λ _ e. ne (line-is ∙ e))
+
+    pub past-it : t .«dst_line» ≡ line → col < t .«dst_col» → 4294967295 ≡ indexOf (lookupOf table line col)
+    past-it e h = nothing (λ k _. (let z : tokenAt table last .«dst_line» ≡ line = sym line-is ∙ e in omega (arith, z, col-is)))
+
+    pub found : t .«dst_line» ≡ line → t .«dst_col» ≤ col → last ≡ indexOf (lookupOf table line col)
+    found e h =
+        let on : tokenAt table last .«dst_line» ≡ line = sym line-is ∙ e in
+        sym (ap indexOf (is-best table line col last (halves table line col last never-falls (is-last (omega (arith, on, col-is))) .best on)))

@@ -1,0 +1,4 @@
+pub mod Before
+pub mod Falls
+pub mod Rise
+pub mod Worked

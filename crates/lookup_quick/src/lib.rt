@@ -41,7 +41,7 @@ fn quarter_each(table: &[u32], size: usize, positions: &[u32], found: &mut [u32]
 
 // What each position finds among the few tokens that are left.
 fn find_each(table: &[u32], size: usize, positions: &[u32], found: &mut [u32])
-    requires { ⌜ (Rising (now table) × (size ≤ 3)) × ((pairs (length (now positions)) ≤ length (now found)) × Each (now table) (now positions) size (now found) (now found)) ⌝ }
+    requires { ⌜ ((badTable (length (now table)) ≡ false) × (Rising (now table) × (size ≤ 3))) × ((pairs (length (now positions)) ≤ length (now found)) × Each (now table) (now positions) size (now found) (now found)) ⌝ }
     ensures { λ _. ⌜ Held (now (table .entry)) (now (positions .entry)) (places (length (now (table .entry)))) (now (found .entry)) (now (found .exit)) ⌝ }
 {
     let count = positions.len() / 2;

@@ -5,6 +5,7 @@ use Rattle.lookup_many.specs.Blocks.{Held}
 use mathlib.Core.Logic.{⊎-elim}
 use mathlib.Core.Path.{_∙_}
 use lib.ListN.{length}
+use Rattle.token.specs.Table.{places}
 use Rattle.token.proofs.Whole.{few}
 use Rattle.lookup_many.proofs.Pairs.{after, again, finish, block}
 use Rattle.lookup_many.proofs.look_all.Statement.{statement}
@@ -31,7 +32,7 @@ places-in-requires c κs = tt
 
 -- src/lib.rt:158:5
 loop-holds : tie.Need-loop-holds Inv-loop μ-loop
-loop-holds c = (omega arith, again _ _ _ _ _ (c .before .before .before .none-yet .ensures))
+loop-holds c = (omega arith, again _ _ _ _ (c .before .before .before .none-yet .ensures))
 
 -- src/lib.rt:160:20
 sub-if1 : tie.Need-sub-if1 Inv-loop μ-loop
@@ -43,7 +44,7 @@ add-to c = omega (arith, c .if1 .taken, c .before .loop-test .taken, c .before .
 
 -- src/lib.rt:163:9
 look-block-requires : tie.Need-look-block-requires Inv-loop μ-loop
-look-block-requires c κs = (block _ _ _ _ (c .before .before .before .before .before .before .before .before .before .before .before .before .pre .0) (c .before .before .before .before .places-in .ensures) (⊎-elim (λ w. (omega (arith, w .0 .taken, w .1), omega (arith, w .0 .taken, w .1))) (λ w. (omega (arith, w .1, c .before .before .loop-test .taken), omega (arith, w .1))) (c .before .if1 .came)), (omega (arith, c .before .before .before .loop .inv .1 .sized, c .before .before .before .before .before .before .before .none-yet .ensures .sized, c .before .before .before .before .before .before .before .before .before .before .before .before .pre .1), again _ _ _ _ _ (c .before .before .before .loop .inv .1)))
+look-block-requires c κs = (block _ _ _ _ (c .before .before .before .before .before .before .before .before .before .before .before .before .pre .0) (c .before .before .before .before .places-in .ensures) (⊎-elim (λ w. (omega (arith, w .0 .taken, w .1), omega (arith, w .0 .taken, w .1))) (λ w. (omega (arith, w .1, c .before .before .loop-test .taken), omega (arith, w .1))) (c .before .if1 .came)), (omega (arith, c .before .before .before .loop .inv .1 .sized, c .before .before .before .before .before .before .before .none-yet .ensures .sized, c .before .before .before .before .before .before .before .before .before .before .before .before .pre .1), again _ _ _ _ (c .before .before .before .loop .inv .1)))
 
 -- src/lib.rt:158:5
 loop-less : tie.Need-loop-less Inv-loop μ-loop
@@ -51,7 +52,7 @@ loop-less c = ⊎-elim (λ w. omega (arith, w .0 .taken, w .1)) (λ w. omega (ar
 
 -- src/lib.rt:158:5
 loop-again : tie.Need-loop-again Inv-loop μ-loop
-loop-again c = (⊎-elim (λ w. omega (arith, w .0 .taken, w .1)) (λ w. omega (arith, w .1, c .before .before .before .before .before .loop-test .taken)) (c .before .before .before .before .if1 .came), after _ _ _ _ _ _ _ (c .before .before .before .before .before .before .loop .inv .1) (c .before .before .look-block .ensures))
+loop-again c = (⊎-elim (λ w. omega (arith, w .0 .taken, w .1)) (λ w. omega (arith, w .1, c .before .before .before .before .before .loop-test .taken)) (c .before .before .before .before .if1 .came), after _ _ _ _ _ _ (c .before .before .before .before .before .before .loop .inv .1) (c .before .before .look-block .ensures))
 
 -- src/lib.rt:151:1
 same-length : tie.Need-same-length Inv-loop μ-loop
@@ -59,7 +60,7 @@ same-length c = c .before .loop .inv .1 .sized ∙ c .before .before .before .be
 
 -- src/lib.rt:151:1
 returns : tie.Need-returns Inv-loop μ-loop
-returns c = finish _ _ _ _ _ _ _ _ (c .before .before .before .before .before .none-yet .ensures) (c .before .loop .inv .1) (omega (arith, c .before .loop .inv .0, c .loop-test .left, c .before .before .places-in .ensures))
+returns c = finish _ (c .before .before .before .before .before .before .before .before .before .before .args .positions .now) _ (c .before .loop .i) (places (length (c .before .before .before .before .before .before .before .before .before .before .args .table .now))) _ _ (after _ _ _ _ _ _ (c .before .before .before .before .before .none-yet .ensures) (c .before .loop .inv .1)) (omega (arith, c .before .loop .inv .0, c .loop-test .left, c .before .before .places-in .ensures))
 
 pub look-all-spec : {M : Type 1} → statement M
 look-all-spec =

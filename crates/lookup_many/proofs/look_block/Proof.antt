@@ -2,7 +2,7 @@
 use native.Mathlib.Omega.{arith}
 use Prim.Native.Nat.{_-_}
 use mathlib.Core.Path.{refl}
-use Rattle.lookup_many.proofs.Pairs.{Partly, foundAt, begin, inside, next, held}
+use Rattle.lookup_many.proofs.Pairs.{Partly, Finds, begin, inside, next, filled}
 use Rattle.lookup_many.proofs.look_block.Statement.{statement}
 use Rattle.lookup_many.proofs.look_block.Tie as tie
 use Rattle.lookup_many.proofs.look_block.Reads as reads
@@ -11,7 +11,7 @@ use Rattle.lookup_many.proofs.block_of.Reads as block-of-reads
 use Rattle.lookup_many.proofs.past_block.Reads as past-block-reads
 
 abbrev Inv-loop : tie.InvT-loop
-Inv-loop table from to positions found₀ b count k₀ found k = Partly (foundAt table positions to) (foundAt table positions from) count k found₀ found
+Inv-loop table from to positions found₀ b count k₀ found k = Partly (Finds table positions to) (Finds table positions from) count k found₀ found
 
 abbrev μ-loop : tie.MeasureT-loop
 μ-loop table from to positions found₀ b count k₀ found k = count - k
@@ -90,7 +90,7 @@ same-length c = c .before .loop .inv .sized
 
 -- src/lib.rt:100:1
 returns : tie.Need-returns Inv-loop μ-loop
-returns c = held _ _ _ _ refl _ _ _ _ (c .before .loop .inv) (c .loop-test .left)
+returns c = filled _ _ _ _ _ _ (c .before .loop .inv) (c .loop-test .left)
 
 pub look-block-spec : {M : Type 1} → statement M
 look-block-spec =

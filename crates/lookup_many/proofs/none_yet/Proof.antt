@@ -1,17 +1,17 @@
 -- `lookup_many::none_yet` meets its contract, by the laws of `Pairs`. Assumes nothing.
 use native.Mathlib.Omega.{arith}
 use Prim.Native.Nat.{_-_}
-use mathlib.Core.Path.{refl}
+use mathlib.Core.Path.{_≡_, refl}
 use lib.ListN.{getD}
 use Rattle.lookup.proofs.Scan.{from-nothing}
-use Rattle.lookup_many.proofs.Pairs.{Partly, foundAt, begin, inside, next, held}
+use Rattle.lookup_many.proofs.Pairs.{Partly, Finds, begin, inside, next, filled}
 use Rattle.lookup_many.proofs.none_yet.Statement.{statement}
 use Rattle.lookup_many.proofs.none_yet.Tie as tie
 use Rattle.lookup_many.proofs.none_yet.Reads as reads
 use Rattle.lookup_many.proofs.none_yet.Lts as lts
 
 abbrev Inv-loop : tie.InvT-loop
-Inv-loop table positions found₀ places k₀ found k = Partly (foundAt table positions 0) (λ j. getD found₀ j 0) places k found₀ found
+Inv-loop table positions found₀ places k₀ found k = Partly (Finds table positions 0) (λ j n. n ≡ getD found₀ j 0) places k found₀ found
 
 abbrev μ-loop : tie.MeasureT-loop
 μ-loop table positions found₀ places k₀ found k = places - k
@@ -46,7 +46,7 @@ same-length c = c .before .loop .inv .sized
 
 -- src/lib.rt:120:1
 returns : tie.Need-returns Inv-loop μ-loop
-returns c = held _ _ 0 _ refl _ _ _ _ (c .before .loop .inv) (c .loop-test .left)
+returns c = filled _ _ _ _ _ _ (c .before .loop .inv) (c .loop-test .left)
 
 pub none-yet-spec : {M : Type 1} → statement M
 none-yet-spec =

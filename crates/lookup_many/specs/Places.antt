@@ -1,0 +1,12 @@
+-- Helpers: what inner contracts and proofs need; no contract of an entry and no theorem reaches this file.
+-- A lent list with a place for each pair. Assumes nothing.
+use mathlib.Core.Path.{_≡_}
+use mathlib.Core.List.{List}
+use Prim.Native.Nat.{ℕ, _<_}
+use lib.ListN.{length, drop, getD}
+
+-- of each of the first count places what is said of its number; the places past them are as they were
+pub record Filled (P : ℕ → ℕ → Type 0) (count : ℕ) (before found : List ℕ) : Type 0 where
+  pub each : (k : ℕ) → k < count → P k (getD found k 0)
+  pub kept : drop count found ≡ drop count before
+  pub sized : length found ≡ length before

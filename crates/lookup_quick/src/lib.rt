@@ -32,7 +32,9 @@ fn quarter_each(table: &[u32], size: usize, positions: &[u32], found: &mut [u32]
     let count = positions.len() / 2;
     let mut k: usize = 0;
     while k < count {
-        let asked = order::key_of(positions[2 * k], positions[2 * k + 1]);
+        let line = positions[2 * k];
+        let col = positions[2 * k + 1];
+        let asked = order::key_of(line, col);
         let base = halving::quartered(table, found[k] as usize, size, asked);
         found[k] = base as u32;
         k += 1;

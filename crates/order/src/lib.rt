@@ -85,9 +85,11 @@ pub fn is_sorted(table: &[u32]) -> bool
     if tokens == 0 {
         return true;
     }
-    let part = (tokens - 1) / 4;
+    let last = tokens - 1;
+    let part = last / 4;
+    let rest = 4 * part;
     if parts_rise(table, part) {
-        return rises(table, 4 * part, tokens - 1);
+        return rises(table, rest, last);
     }
     false
 }

@@ -1,8 +1,6 @@
 -- `lookup_quick::quarter_each` meets its contract, by the laws of `Pairs`. Assumes nothing.
 use native.Mathlib.Omega.{arith}
-use Prim.Native.Nat.{_-_}
-use Prim.Native.Nat.{_*_, _/_}
-use mathlib.Core.Path.{refl}
+use Prim.Native.Nat.{_-_, _*_, _/_}
 use lib.ListN.{length}
 use Rattle.token.proofs.Whole.{few}
 use Rattle.lookup_many.proofs.Pairs.{Partly, begin, inside, next, filled}
@@ -24,67 +22,67 @@ abbrev μ-loop : tie.MeasureT-loop
 loop-holds : tie.Need-loop-holds Inv-loop μ-loop
 loop-holds c = begin _ _ _ _ (c .before .before .before .pre .1 .0) (c .before .before .before .pre .1 .1 .each)
 
--- src/lib.rt:35:45
-mul-key-of : tie.Need-mul-key-of Inv-loop μ-loop
-mul-key-of c = omega (arith, c .loop-test .taken, c .before .before .before .before .before .good)
+-- src/lib.rt:35:30
+mul-line : tie.Need-mul-line Inv-loop μ-loop
+mul-line c = omega (arith, c .loop-test .taken, c .before .before .before .before .before .good)
 
--- src/lib.rt:35:35
-mul-key-of-2 : tie.Need-mul-key-of-2 Inv-loop μ-loop
-mul-key-of-2 c = omega (arith, c .loop-test .taken, c .before .before .before .before .before .good)
+-- src/lib.rt:35:20
+mul-line-2 : tie.Need-mul-line-2 Inv-loop μ-loop
+mul-line-2 c = omega (arith, c .loop-test .taken, c .before .before .before .before .before .good)
 
--- src/lib.rt:35:35
-shared-slice-read-key-of : tie.Need-shared-slice-read-key-of Inv-loop μ-loop
-shared-slice-read-key-of c = omega (arith, c .before .loop-test .taken, c .before .before .before .before .before .before .good)
+-- src/lib.rt:35:20
+shared-slice-read-line : tie.Need-shared-slice-read-line Inv-loop μ-loop
+shared-slice-read-line c = omega (arith, c .before .loop-test .taken, c .before .before .before .before .before .before .good)
 
--- src/lib.rt:35:63
-mul-key-of-3 : tie.Need-mul-key-of-3 Inv-loop μ-loop
-mul-key-of-3 c = omega (arith, c .before .loop-test .taken, c .before .before .before .before .before .before .good)
+-- src/lib.rt:36:29
+mul-col : tie.Need-mul-col Inv-loop μ-loop
+mul-col c = omega (arith, c .before .loop-test .taken, c .before .before .before .before .before .before .good)
 
--- src/lib.rt:35:63
-add-key-of : tie.Need-add-key-of Inv-loop μ-loop
-add-key-of c = omega (arith, c .before .loop-test .taken, c .before .before .before .before .before .before .good)
+-- src/lib.rt:36:29
+add-col : tie.Need-add-col Inv-loop μ-loop
+add-col c = omega (arith, c .before .loop-test .taken, c .before .before .before .before .before .before .good)
 
--- src/lib.rt:35:53
-mul-key-of-4 : tie.Need-mul-key-of-4 Inv-loop μ-loop
-mul-key-of-4 c = omega (arith, c .before .loop-test .taken, c .before .before .before .before .before .before .good)
+-- src/lib.rt:36:19
+mul-col-2 : tie.Need-mul-col-2 Inv-loop μ-loop
+mul-col-2 c = omega (arith, c .before .loop-test .taken, c .before .before .before .before .before .before .good)
 
--- src/lib.rt:35:53
-shared-slice-read-key-of-2 : tie.Need-shared-slice-read-key-of-2 Inv-loop μ-loop
-shared-slice-read-key-of-2 c = omega (arith, c .before .before .loop-test .taken, c .before .before .before .before .before .before .before .good)
+-- src/lib.rt:36:19
+shared-slice-read-col : tie.Need-shared-slice-read-col Inv-loop μ-loop
+shared-slice-read-col c = omega (arith, c .before .before .loop-test .taken, c .before .before .before .before .before .before .before .good)
 
--- src/lib.rt:35:13
+-- src/lib.rt:37:13
 key-of-requires : tie.Need-key-of-requires Inv-loop μ-loop
 key-of-requires c κs = tt
 
--- src/lib.rt:36:46
+-- src/lib.rt:38:46
 mul-quartered : tie.Need-mul-quartered Inv-loop μ-loop
 mul-quartered c = omega (arith, c .before .before .before .loop-test .taken, c .before .before .before .before .before .before .before .before .good)
 
--- src/lib.rt:36:46
+-- src/lib.rt:38:46
 slice-read-quartered : tie.Need-slice-read-quartered Inv-loop μ-loop
 slice-read-quartered c = inside _ _ _ _ _ _ (c .before .before .before .before .before .loop .inv) (c .before .before .before .before .loop-test .taken)
 
--- src/lib.rt:36:46
+-- src/lib.rt:38:46
 cast-quartered : tie.Need-cast-quartered Inv-loop μ-loop
 cast-quartered c = omega (arith, c .slice-known2 .given (c .before .before .before .before .before .loop .k))
 
--- src/lib.rt:36:13
+-- src/lib.rt:38:13
 quartered-requires : tie.Need-quartered-requires Inv-loop μ-loop
 quartered-requires c κs = (c .before .before .before .before .before .before .before .before .before .pre .0 .1, rw (c .before .key-of .ensures) (c .before .before .before .before .before .loop .inv .left _ (omega arith) (c .before .before .before .before .loop-test .taken)))
 
--- src/lib.rt:37:20
+-- src/lib.rt:39:20
 cast-found : tie.Need-cast-found Inv-loop μ-loop
 cast-found c = omega (arith, c .quartered .ensures .ends, c .quartered .ensures .some, few (length (c .before .before .before .before .before .before .before .before .before .before .args .table .now)) (c .before .before .before .before .before .before .before .before .before .before .pre .0 .0))
 
--- src/lib.rt:37:9
+-- src/lib.rt:39:9
 mul-found : tie.Need-mul-found Inv-loop μ-loop
 mul-found c = omega (arith, c .before .before .before .before .before .loop-test .taken, c .before .before .before .before .before .before .before .before .before .before .good)
 
--- src/lib.rt:37:9
+-- src/lib.rt:39:9
 slice-write-found : tie.Need-slice-write-found Inv-loop μ-loop
 slice-write-found c = inside _ _ _ _ _ _ (c .before .before .before .before .before .before .loop .inv) (c .before .before .before .before .before .loop-test .taken)
 
--- src/lib.rt:38:9
+-- src/lib.rt:40:9
 add-k : tie.Need-add-k Inv-loop μ-loop
 add-k c = omega (arith, c .before .before .before .before .before .loop-test .taken, c .before .before .before .before .before .before .before .before .before .before .good)
 
@@ -111,13 +109,13 @@ quarter-each-spec =
     Inv-loop
     μ-loop
     loop-holds
-    mul-key-of
-    mul-key-of-2
-    shared-slice-read-key-of
-    mul-key-of-3
-    add-key-of
-    mul-key-of-4
-    shared-slice-read-key-of-2
+    mul-line
+    mul-line-2
+    shared-slice-read-line
+    mul-col
+    add-col
+    mul-col-2
+    shared-slice-read-col
     key-of-requires
     mul-quartered
     slice-read-quartered

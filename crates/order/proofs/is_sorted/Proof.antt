@@ -20,27 +20,23 @@ places-in-requires c κs = search needs
 returns : tie.Need-returns
 returns c = empty _ (sym (c .before .places-in .ensures) ∙ c .if1 .taken)
 
--- src/lib.rt:88:17
-sub-part : tie.Need-sub-part
-sub-part c = search needs
+-- src/lib.rt:88:16
+sub-last : tie.Need-sub-last
+sub-last c = search needs
 
--- src/lib.rt:89:8
+-- src/lib.rt:90:16
+mul-rest : tie.Need-mul-rest
+mul-rest c = search needs
+
+-- src/lib.rt:91:8
 parts-rise-requires : tie.Need-parts-rise-requires
 parts-rise-requires c κs = search needs
 
--- src/lib.rt:90:29
-mul-rises : tie.Need-mul-rises
-mul-rises c = search needs
-
--- src/lib.rt:90:39
-sub-rises : tie.Need-sub-rises
-sub-rises c = search needs
-
--- src/lib.rt:90:9
+-- src/lib.rt:92:9
 rises-requires : tie.Need-rises-requires
 rises-requires c κs = search needs
 
--- src/lib.rt:90:9
+-- src/lib.rt:92:9
 returns-2 : tie.Need-returns-2
 returns-2 c = by-rest _ (narrow _ (λ i. omega (arith, c .before .before .before .before .before .shared-slice-known .given i))) _ (omega (arith, c .before .before .before .before .places-in .ensures, c .before .before .before .if1 .left)) _ _ (c .before .before .parts-rise .ensures) (c .before .if2 .taken) _ (c .rises .ensures)
 
@@ -54,10 +50,9 @@ is-sorted-spec =
     (tie.spec
     places-in-requires
     returns
-    sub-part
+    sub-last
+    mul-rest
     parts-rise-requires
-    mul-rises
-    sub-rises
     rises-requires
     returns-2
     returns-3)

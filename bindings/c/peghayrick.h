@@ -1,4 +1,4 @@
-/* Peghayrick 0.7.0: the mapping core of source maps, for C99 and later and C++11 and later.
+/* Peghayrick 0.8.0: the mapping core of source maps, for C99 and later and C++11 and later.
  *
  * Link with libpeghayrick.a (x86-64 Linux). The archive needs one symbol from outside, memset.
  *
@@ -39,7 +39,7 @@
  * the tokens before the refused segment; every other refusal writes nothing. Look at the code first: the
  * rest of a refused answer is not a result.
  *
- * Order of use: pgk_table_size, pgk_decode, then pgk_lookup or, for many positions, pgk_lookup_many;
+ * Order of use: pgk_table_size, pgk_decode, then pgk_lookup or, for many positions, pgk_lookup_many_quick;
  * bindings/examples/stop.c does it.
  *
  * docs/RULES.md has the exact rules, docs/TRUST.md what of this is proved, what is tested and what is trusted.
@@ -55,8 +55,8 @@ extern "C" {
 #endif
 
 /* The version of this header: major * 1000000 + minor * 1000 + patch. pgk_version() has that of the archive. */
-#define PGK_VERSION 7000u
-#define PGK_VERSION_TEXT "0.7.0"
+#define PGK_VERSION 8000u
+#define PGK_VERSION_TEXT "0.8.0"
 
 /* As an id, a segment or the index of a token that was looked up: none. */
 #define PGK_NONE 4294967295u
@@ -231,8 +231,21 @@ pgk_answer pgk_lookup(const uint32_t *table, size_t table_len, uint32_t line, ui
  * Places past the positions are kept. found must not overlap table or positions; those two are only read.
  * The table may be in any order. Hand in the written part only, as to pgk_lookup. Cost: the table is read once for all
  * positions, in blocks of 64 tokens; a block is read again only for a position that lies within it. For one or two
- * positions pgk_lookup is quicker. */
+ * positions pgk_lookup is quicker. Unless the table is known not to be sorted, call pgk_lookup_many_quick. */
 pgk_answer pgk_lookup_many(const uint32_t *table, size_t table_len, const uint32_t *positions, size_t positions_len,
+    uint32_t *found, size_t found_len);
+
+/* The answers of pgk_lookup_many, by halving where the table is sorted. On every table and every list of positions the
+ * code, the number and all of found are the same, and so are the refusals, in the order PGK_BAD_TABLE, PGK_ODD_LIST,
+ * PGK_NO_ROOM, and what the caller owes of the lent memory.
+ * It looks once whether the table is sorted by line and then by column; equal tokens may follow each other. If so, it
+ * halves; if not, it does what pgk_lookup_many does. So the table may be in any order, and this is the one to call unless
+ * the table is known not to be sorted. A decoded table is sorted by line always, and by column where the bundler wrote
+ * columns that do not fall, as all usual ones do. Translating keeps the order, and composing that of the outer table.
+ * Cost: on a sorted table one pass over it and some tokens more for each position, so little more than one pass unless the
+ * table is short; on any other what pgk_lookup_many costs, and the tokens that are read until one falls. For one position
+ * pgk_lookup reads less: the line of every token, where this reads line and column of each. */
+pgk_answer pgk_lookup_many_quick(const uint32_t *table, size_t table_len, const uint32_t *positions, size_t positions_len,
     uint32_t *found, size_t found_len);
 
 /* A name list is a text and the end of each name in it; a name begins where the one before it ends.

@@ -133,13 +133,14 @@ static int steps(const char *map, size_t len, const char *log, const uint32_t *p
     pgk_decoded d;
     pgk_answer a;
     int status = 2;
-    /* The decode that names no mode is checked: no position that loses bits comes to the screen. */
+    /* The decode that names no mode is checked: no position that loses bits comes to the screen. The quick lookup halves
+     * where the map is sorted, as usual ones are, and has the same answers where it is not. */
     if (table == NULL || found == NULL) {
         fprintf(stderr, "there is no memory for the map: load a smaller one\n");
     } else if ((d = pgk_decode((const uint8_t *)text, len, sources, names, table, size)).code != PGK_DONE) {
         fprintf(stderr, "the map is refused at byte %llu: %s (code %llu, number %llu)\n",
             (unsigned long long)d.offset, pgk_words(d.code), (unsigned long long)d.code, (unsigned long long)d.number);
-    } else if ((a = pgk_lookup_many(table, PGK_WIDTH * d.tokens, positions, 2 * count, found, count)).code != PGK_DONE) {
+    } else if ((a = pgk_lookup_many_quick(table, PGK_WIDTH * d.tokens, positions, 2 * count, found, count)).code != PGK_DONE) {
         fprintf(stderr, "the lookup is refused: %s (code %llu)\n", pgk_words(a.code), (unsigned long long)a.code);
     } else {
         status = print(log, found, count, table, text, len) ? 0 : 1;

@@ -498,10 +498,22 @@ static pgk_answer found_many(const uint32_t *k, size_t numbers, const uint32_t *
     return a;
 }
 
+/* The two calls for many positions: one answer. */
+typedef pgk_answer many(const uint32_t *table, size_t numbers, const uint32_t *asked, size_t n, uint32_t *out, size_t room);
+
+enum { PLAIN, QUICK, CALLS };
+
+static many *const calls[CALLS] = { pgk_lookup_many, pgk_lookup_many_quick };
+
+static void check_many(int ok, int call, const char *what) {
+    if (!ok) printf("%s, ", call == QUICK ? "quick" : "plain");
+    check(ok, what);
+}
+
 enum { ASKED = 128 };
 
 /* One call in nine placements: this answer, no trace outside, and of what is lent to be written only the places of the positions. */
-static int many_all(const uint32_t *table, size_t numbers, const uint32_t *asked, size_t n, size_t room, pgk_answer want, const uint32_t *out) {
+static int many_all(int call, const uint32_t *table, size_t numbers, const uint32_t *asked, size_t n, size_t room, pgk_answer want, const uint32_t *out) {
     int ok = 1;
     for (place i = FIRST; i < PLACES; i++)
         for (place j = FIRST; j < PLACES; j++) {
@@ -509,7 +521,7 @@ static int many_all(const uint32_t *table, size_t numbers, const uint32_t *asked
             for (size_t k = 0; k < room; k++) got[k] = 0x5EED0000u + (uint32_t)k;
             lent a = lend(pens[0], i, table, 4 * numbers, 0), b = lend(pens[1], (place)((i + j) % PLACES), asked, 4 * n, 0),
                 c = lend(pens[2], j, got, 4 * room, 1);
-            pgk_answer d = pgk_lookup_many((uint32_t *)a.at, numbers, (uint32_t *)b.at, n, (uint32_t *)c.at, room);
+            pgk_answer d = calls[call]((uint32_t *)a.at, numbers, (uint32_t *)b.at, n, (uint32_t *)c.at, room);
             ok &= back(c, got) & back(a, NULL) & back(b, NULL);
             size_t filled = want.code == PGK_DONE ? n / 2 : 0;
             ok &= d.code == want.code && d.number == want.number && memcmp(got, out, 4 * filled) == 0;
@@ -518,9 +530,11 @@ static int many_all(const uint32_t *table, size_t numbers, const uint32_t *asked
     return ok;
 }
 
-static void looking_many(unsigned rounds) {
+/* Each refusal, their order, and what is answered by hand, in a table that is not sorted and in the same tokens sorted. */
+static void worked_many(int call) {
     /* Two tokens at one position, one before them on the line, and one at the largest position. */
     static const uint32_t table[4 * W] = { 2, 5, 0, 0, 0, 0, 0, 2, 5, 0, 0, 0, 0, 0, 2, 3, 0, 0, 0, 0, 0, PGK_NONE, PGK_NONE, 0, 0, 0, 0, 0 };
+    static const uint32_t to[4] = { 1, 2, 0, 3 };   /* where each token stands in the sorted table */
     static const struct { size_t numbers, n, room; uint32_t asked[8]; pgk_answer want; uint32_t out[4]; const char *what; } rows[] = {
         { 4 * W, 8, 4, { 2, 5, 2, 4, 2, 2, 0, 5 }, { PGK_DONE, 0 }, { 1, 2, PGK_NONE, PGK_NONE }, "many: the latest, one before it, none, none on the line" },
         { 4 * W, 8, 9, { 2, 9, 2, 3, 2, 9, 2, 9 }, { PGK_DONE, 0 }, { 1, 2, 1, 1 }, "many: a position that comes again, and places past the positions" },
@@ -538,12 +552,36 @@ static void looking_many(unsigned rounds) {
         { 12, 8, 3, { 2, 5, 2, 5, 2, 5, 2, 5 }, { PGK_BAD_TABLE, 0 }, { 0 }, "many: BadTable before NoRoom" },
         { 1, 0, 0, { 0 }, { PGK_BAD_TABLE, 0 }, { 0 }, "many: BadTable, no positions" },
     };
-    for (size_t i = 0; i < sizeof rows / sizeof *rows; i++)
-        check(many_all(table, rows[i].numbers, rows[i].asked, rows[i].n, rows[i].room, rows[i].want, rows[i].out), rows[i].what);
+    uint32_t sorted[4 * W];
+    for (size_t t = 0; t < 4; t++) memcpy(sorted + W * to[t], table + W * t, 4 * W);
+    for (size_t i = 0; i < sizeof rows / sizeof *rows; i++) {
+        uint32_t out[4];
+        for (size_t k = 0; k < 4; k++) out[k] = rows[i].out[k] == none ? none : to[rows[i].out[k]];
+        int ok = many_all(call, table, rows[i].numbers, rows[i].asked, rows[i].n, rows[i].room, rows[i].want, rows[i].out);
+        ok &= many_all(call, sorted, rows[i].numbers, rows[i].asked, rows[i].n, rows[i].room, rows[i].want, out);
+        check_many(ok, call, rows[i].what);
+    }
 
-    /* Every table of up to three tokens at nine positions, in any order, asked for all nine forth and back: as one by one. */
+    /* A token alone, and up to 70 at one position: before it, at it, past it, on other lines. */
+    static const uint32_t asked[12] = { 2, 4, 2, 5, 2, PGK_NONE, 1, 5, 3, 5, PGK_NONE, PGK_NONE };
+    int ok = 1;
+    for (uint32_t tokens = 1; tokens <= 70; tokens++) {
+        uint32_t equal[70 * W] = { 0 }, out[6] = { none, tokens - 1, tokens - 1, none, none, none };
+        for (uint32_t t = 0; t < tokens; t++) memcpy(equal + W * t, table, 8);
+        ok &= many_all(call, equal, W * tokens, asked, 12, 6, (pgk_answer){ PGK_DONE, 0 }, out);
+    }
+    check_many(ok, call, "many: the latest of equal tokens");
+
+    /* What is only read may overlap: here the positions are a token's own. */
+    uint32_t self[W] = { 7, 8, 0, 0, 0, 0, 0 }, where = 9;
+    pgk_answer a = calls[call](self, W, self, 2, &where, 1);
+    check_many(a.code == PGK_DONE && a.number == 0 && where == 0, call, "many: positions within the table");
+}
+
+/* Every table of up to four tokens at nine positions, in any order, asked for all nine forth and back: as one by one. */
+static void small_many(int call) {
     static const uint32_t ends[3] = { 0, 1, PGK_NONE };
-    uint32_t asked[ASKED];
+    uint32_t asked[36];
     int alone = 1;
     unsigned hits = 0, misses = 0;
     for (uint32_t i = 0; i < 18; i++) {
@@ -551,11 +589,11 @@ static void looking_many(unsigned rounds) {
         asked[2 * i] = ends[k / 3];
         asked[2 * i + 1] = ends[k % 3];
     }
-    for (uint32_t tokens = 0, tables = 1; tokens <= 3; tokens++, tables *= 9)
+    for (uint32_t tokens = 0, tables = 1; tokens <= 4; tokens++, tables *= 9)
         for (uint32_t number = 0; number < tables; number++) {
-            uint32_t small[3 * W] = { 0 }, out[18], rest = number;
+            uint32_t small[4 * W] = { 0 }, out[18], rest = number;
             for (uint32_t t = 0; t < tokens; t++, rest /= 9) memcpy(small + W * t, asked + 2 * (rest % 9), 8);
-            pgk_answer a = pgk_lookup_many(small, W * tokens, asked, 36, out, 18);
+            pgk_answer a = calls[call](small, W * tokens, asked, 36, out, 18);
             alone &= a.code == PGK_DONE && a.number == 0;
             for (uint32_t i = 0; i < 18; i++) {
                 alone &= pgk_lookup(small, W * tokens, asked[2 * i], asked[2 * i + 1]).number == out[i];
@@ -563,40 +601,68 @@ static void looking_many(unsigned rounds) {
                 else hits++;
             }
         }
-    check(alone && hits > 1000 && misses > 1000, "many: every small table, as one by one");
+    check_many(alone && hits > 1000 && misses > 1000, call, "many: every small table, as one by one");
+}
 
-    /* Tables at random, of more tokens than the 64 that are looked at together, in order of their positions or in none. */
+/* Tables that fall at one token, each in turn: the second, the last and those at each quarter's end among them. Were such a table taken
+ * for sorted, the token before the fall would not be found. */
+static void falling_many(int call) {
+    static const char *const ways[] = { "many: a column falls", "many: a column falls to before all", "many: a line falls", "many: a line falls to before all" };
+    enum { MOST = 130 };
+    for (int way = 0; way < 4; way++) {
+        uint32_t table[MOST * W] = { 0 };
+        int ok = 1;
+        for (uint32_t t = 0; t < MOST; t++) {
+            table[W * t] = way < 2 ? 3 : 2 * t + 2;
+            table[W * t + 1] = way < 2 ? 10 * t + 10 : 5;
+        }
+        for (uint32_t tokens = 2; tokens <= MOST; tokens++)
+            for (uint32_t at = 1; at < tokens; at++) {
+                uint32_t *fallen = table + W * at, line = fallen[0], col = fallen[1];
+                fallen[0] = way < 2 ? 3 : way == 2 ? 2 * at - 1 : 0;
+                fallen[1] = way == 0 ? 10 * at - 5 : way == 1 ? 0 : 9;
+                const uint32_t *last = table + W * (tokens - 1);
+                uint32_t asked[10] = { fallen[-W], fallen[1 - W], fallen[0], fallen[1], table[0], table[1], last[0], last[1], line, col };
+                uint32_t out[5], want[5];
+                pgk_answer a = calls[call](table, W * tokens, asked, 10, out, 5);
+                found_many(table, W * tokens, asked, 10, want, 5);
+                ok &= a.code == PGK_DONE && a.number == 0 && out[0] == at - 1 && out[1] == at && memcmp(out, want, sizeof out) == 0;
+                fallen[0] = line;
+                fallen[1] = col;
+            }
+        check_many(ok, call, ways[way]);
+    }
+}
+
+/* Tables at random, of more tokens than the 64 that the plain call looks at together: in no order, sorted, and sorted but for one token. */
+static void random_many(int call, unsigned rounds) {
     int ok = 1;
     unsigned seen[18] = { 0 };
     for (unsigned r = 0; r < rounds; r++) {
         enum { MOST = 200 };
-        uint32_t long_table[MOST * W], out[ASKED], line = 0, col = 0;
+        uint32_t table[MOST * W], asked[ASKED], out[ASKED], line = 0, col = 0;
         size_t numbers = below(20) ? W * below(MOST + 1) : below(MOST * W + 1), n = below(ASKED + 1), room = below(10) ? n / 2 : below(ASKED);
         if (below(4)) n -= n % 2;
-        uint32_t order = below(2), lines = 1 + below(9);
+        uint32_t order = below(3), lines = 1 + below(9);
         for (size_t k = 0; k < MOST * W; k += W) {
             if (below(20) == 0) { line++; col = 0; }
             col += below(3);
-            long_table[k] = order ? line : below(lines);
-            long_table[k + 1] = order ? col : below(4) ? below(9) : any();
-            for (size_t i = 2; i < W; i++) long_table[k + i] = any();
+            table[k] = order ? line : below(lines);
+            table[k + 1] = order ? col : below(4) ? below(9) : any();
+            for (size_t i = 2; i < W; i++) table[k + i] = any();
         }
+        if (order == 2 && numbers >= W) memcpy(table + W * below((uint32_t)(numbers / W)), table + W * below(MOST), 8);
         for (size_t i = 0; i + 1 < ASKED; i += 2) {
-            memcpy(asked + i, long_table + W * below(MOST), 8);
+            memcpy(asked + i, table + W * below(MOST), 8);
             if (below(2)) asked[i] = below(lines + 1);
             if (below(2)) asked[i + 1] += below(3) - 1;
         }
-        pgk_answer want = found_many(long_table, numbers, asked, n, out, room);
+        pgk_answer want = found_many(table, numbers, asked, n, out, room);
         seen[want.code]++;
-        ok &= many_all(long_table, numbers, asked, n, room, want, out);
+        ok &= many_all(call, table, numbers, asked, n, room, want, out);
     }
-    check(ok, "many: any table, by the rule, in nine placements");
-    check(seen[PGK_DONE] && seen[PGK_NO_ROOM] && seen[PGK_BAD_TABLE] && seen[PGK_ODD_LIST], "many: met codes 0, 8, 11, 17");
-
-    /* What is only read may overlap: here the positions are a token's own. */
-    uint32_t self[W] = { 7, 8, 0, 0, 0, 0, 0 }, where = 9;
-    pgk_answer a = pgk_lookup_many(self, W, self, 2, &where, 1);
-    check(a.code == PGK_DONE && a.number == 0 && where == 0, "many: positions within the table");
+    check_many(ok, call, "many: any table, by the rule, in nine placements");
+    check_many(seen[PGK_DONE] && seen[PGK_NO_ROOM] && seen[PGK_BAD_TABLE] && seen[PGK_ODD_LIST], call, "many: met codes 0, 8, 11, 17");
 }
 
 /* How many numbers a table needs, by the rule: the bytes that begin a segment. */
@@ -921,8 +987,10 @@ static void empty(void) {
         ok &= pgk_translate(t, 0, none, none, none).code == 0 && pgk_translate_tokens((pgk_token *)t, 0, none, none, none).code == 0;
         pgk_answer a = pgk_lookup(t, 0, none, none);
         ok &= a.code == 0 && a.number == none;
-        a = pgk_lookup_many(t, 0, t, 0, t, 0);
-        ok &= a.code == 0 && a.number == 0;
+        for (int call = PLAIN; call < CALLS; call++) {
+            a = calls[call](t, 0, t, 0, t, 0);
+            ok &= a.code == 0 && a.number == 0;
+        }
         pgk_composed g = pgk_compose(t, 0, 1, b, 0, e, 0, t, 0, b, 0, e, 0, t, 0, t, 0);
         ok &= g.code == 0 && g.number == 0 && g.added == 0;
         pgk_name n = pgk_name_of(b, 0, e, 0, b, 0, e, 0, t, 0, none);
@@ -937,8 +1005,10 @@ static void empty(void) {
     check(a.code == PGK_DONE && a.number == PGK_NONE, "a dummy where there is nothing to lend");
     uint32_t *positions = NULL;
     dummy = 9;
-    a = pgk_lookup_many(count ? table : &dummy, PGK_WIDTH * count, count ? positions : &dummy, 2 * count, &dummy, 0);
-    check(a.code == PGK_DONE && a.number == 0 && dummy == 9, "a dummy where there are no positions");
+    for (int call = PLAIN; call < CALLS; call++) {
+        a = calls[call](count ? table : &dummy, PGK_WIDTH * count, count ? positions : &dummy, 2 * count, &dummy, 0);
+        check_many(a.code == PGK_DONE && a.number == 0 && dummy == 9, call, "a dummy where there are no positions");
+    }
     munmap(shut, PAGE);
 }
 
@@ -955,12 +1025,14 @@ static void too_many(void) {
     check(pgk_translate(t, W * tokens, 0, 0, 0).code == 11, "BadTable past 4294967294 tokens: translate");
     check(pgk_translate_tokens((pgk_token *)t, tokens, 0, 0, 0).code == 11, "BadTable past 4294967294 records");
     check(pgk_lookup(t, W * tokens, 0, 0).code == 11, "BadTable past 4294967294 tokens: lookup");
-    check(pgk_lookup_many(t, W * tokens, &number, 0, &number, 0).code == 11, "BadTable past 4294967294 tokens: lookup of many");
-    /* Nor are positions read that are refused. */
-    pgk_answer a = pgk_lookup_many(&number, 0, t, 30064771065, &number, 0);
-    check(a.code == 17 && a.number == 0, "OddList by the length alone");
-    a = pgk_lookup_many(&number, 0, t, 30064771064, &number, 0);
-    check(a.code == 8 && a.number == 15032385532, "NoRoom past 32 bits: lookup of many");
+    for (int call = PLAIN; call < CALLS; call++) {
+        check_many(calls[call](t, W * tokens, &number, 0, &number, 0).code == 11, call, "BadTable past 4294967294 tokens: lookup of many");
+        /* Nor are positions read that are refused. */
+        pgk_answer a = calls[call](&number, 0, t, 30064771065, &number, 0);
+        check_many(a.code == 17 && a.number == 0, call, "OddList by the length alone");
+        a = calls[call](&number, 0, t, 30064771064, &number, 0);
+        check_many(a.code == 8 && a.number == 15032385532, call, "NoRoom past 32 bits: lookup of many");
+    }
     check(pgk_meets_premises(t, W * tokens, none, none) == 0, "no premises past 4294967294 tokens");
     check(pgk_meets_checked_premises(t, W * tokens, none, none) == 0, "no premises of checked mode past 4294967294 tokens");
     check(pgk_compose(t, W * tokens, 0, &byte, 0, &end, 0, &number, 0, &byte, 0, &end, 0, &number, 0, &number, 0).code == 11, "BadTable: compose, outer");
@@ -981,10 +1053,13 @@ static void unset(void) {
     uint32_t sum = 0;
     for (size_t i = 0; i < W * d.tokens; i++) sum += t[i];
     check(d.code == 0 && d.tokens == 2 && sum == 0 + 2 + 3 + none + 1 + 1 + 2 + 3 + none + none + 5, "a table that was never set");
-    uint32_t asked[4] = { 1, 1, 1, 0 }, *out = malloc(4 * 2);
-    pgk_answer a = pgk_lookup_many(t, W * d.tokens, asked, 4, out, 2);
-    check(a.code == 0 && out[0] == 1 && out[1] == none, "places of many lookups that were never set");
-    free(out);
+    uint32_t asked[4] = { 1, 1, 1, 0 };
+    for (int call = PLAIN; call < CALLS; call++) {
+        uint32_t *out = malloc(4 * 2);
+        pgk_answer a = calls[call](t, W * d.tokens, asked, 4, out, 2);
+        check_many(a.code == 0 && out[0] == 1 && out[1] == none, call, "places of many lookups that were never set");
+        free(out);
+    }
     free(t);
 }
 
@@ -997,7 +1072,7 @@ static void widths(void) {
     for (size_t n = 0; n <= 6 * W; n++) {
         uint64_t code = n % 7 == 0 ? PGK_DONE : PGK_BAD_TABLE;
         ok &= pgk_encode(table, n, pgk_first_chunk((uint32_t)(n / 7)), byte, sizeof byte).code == code && pgk_lookup(table, n, 0, 0).code == code;
-        ok &= pgk_lookup_many(table, n, result, 0, &added, 0).code == code;
+        for (int call = PLAIN; call < CALLS; call++) ok &= calls[call](table, n, result, 0, &added, 0).code == code;
         ok &= pgk_translate(table, n, 0, 0, 0).code == code && pgk_meets_premises(table, n, 1, 1) == (code == PGK_DONE);
         ok &= pgk_meets_checked_premises(table, n, 1, 1) == (code == PGK_DONE);
         ok &= pgk_compose(table, n, 1, byte, 0, &end, 0, table, 0, byte, 0, &end, 0, result, 6 * W, &added, 1).code == code;
@@ -1052,7 +1127,12 @@ int main(int argc, char **argv) {
     writing(rounds);
     translating(rounds);
     looking(rounds);
-    looking_many(rounds);
+    for (int call = PLAIN; call < CALLS; call++) {
+        worked_many(call);
+        small_many(call);
+        falling_many(call);
+        random_many(call, rounds);
+    }
     premises(rounds);
     composing(rounds);
     empty();

@@ -30,6 +30,8 @@ int main() {
     std::vector<uint32_t> positions, found;
     pgk_answer many = pgk_lookup_many(lent(table), table.size(), lent(positions), positions.size(), lent(found), found.size());
     check(many.code == PGK_DONE && many.number == 0, "no positions in no table");
+    many = pgk_lookup_many_quick(lent(table), table.size(), lent(positions), positions.size(), lent(found), found.size());
+    check(many.code == PGK_DONE && many.number == 0, "no positions in no table, by the quick call");
     check(pgk_meets_premises(lent(table), table.size(), 0, 0) == 1, "the premises of no table");
     check(pgk_meets_checked_premises(lent(table), table.size(), 0, 0) == 1, "those of checked mode");
 
@@ -42,6 +44,12 @@ int main() {
     found.resize(many.number);
     many = pgk_lookup_many(lent(table), table.size(), lent(positions), positions.size(), lent(found), found.size());
     check(many.code == PGK_DONE && found == std::vector<uint32_t>({ 0, PGK_NONE, 1, 0 }), "four positions");
+    std::vector<uint32_t> quick;
+    many = pgk_lookup_many_quick(lent(table), table.size(), lent(positions), positions.size(), lent(quick), quick.size());
+    check(many.code == PGK_NO_ROOM && many.number == 4, "four positions and no places, by the quick call");
+    quick.resize(many.number);
+    many = pgk_lookup_many_quick(lent(table), table.size(), lent(positions), positions.size(), lent(quick), quick.size());
+    check(many.code == PGK_DONE && quick == found, "four positions, by the quick call");
     check(pgk_meets_premises(lent(table), table.size(), 1, 0) == 1, "their premises");
     check(pgk_meets_checked_premises(lent(table), table.size(), 1, 0) == 1, "those of checked mode");
     std::vector<uint8_t> out(36 * d.tokens + 1);

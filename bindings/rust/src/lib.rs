@@ -53,6 +53,8 @@
 //!
 //! # Cost
 //! A lookup reads the line of every token, 0.4 to 1.2 ns each. [`lookup_many`] reads the table once for all of its positions.
+//! [`lookup_many_quick`] has the same answers: on a sorted table it costs little more than one pass over it, and it is the one
+//! to call unless the table is known not to be sorted.
 //! [`compose`] does one lookup for each outer token with a source and a search of the inner names for each outer name that it
 //! takes, so its time grows with the product of both tables: 8,000 over 8,000 tokens take 63 times the time of the crate
 //! oxc_sourcemap, and 94,520 over 63,264 tokens of two real maps took 16 s. Compose where the bundle is built and not while a run
@@ -82,7 +84,7 @@ use token::pairs_of;
 pub use token::{table_of, table_of_mut, tokens_of, written, Position, Token, TokenChunk, NONE, WIDTH};
 
 /// The version of this crate: major × 1,000,000 + minor × 1,000 + patch.
-pub const VERSION: u64 = 7000;
+pub const VERSION: u64 = 8000;
 
 /// The version of the archive that was linked. Where it is not [`VERSION`], `PEGHAYRICK_LIB_DIR` named another version's.
 ///
@@ -420,7 +422,8 @@ pub fn lookup_token(table: &[u32], line: u32, col: u32) -> Result<Option<Token>,
 /// shown.
 ///
 /// Hand in the part of the table that was [`written`]. It is read once for all positions, in blocks of 64 tokens, and a block
-/// is read again only for a position that lies within it. For one or two positions [`lookup_index`] is quicker.
+/// is read again only for a position that lies within it. For one or two positions [`lookup_index`] is quicker. Unless the
+/// table is known not to be sorted, call [`lookup_many_quick`], which has the same answers.
 ///
 /// ```
 /// use peghayrick::{lookup_many, table_of, Position, Refusal, Token, NONE};
@@ -443,12 +446,61 @@ pub fn lookup_token(table: &[u32], line: u32, col: u32) -> Result<Option<Token>,
 /// their number. A refusal writes nothing. [`OddList`](Refusal::OddList), which the C form has between the two, cannot come: a
 /// slice of [`Position`] always has both numbers of each.
 pub fn lookup_many(table: &[u32], positions: &[Position], found: &mut [u32]) -> Result<(), Refusal> {
+    // SAFETY: it is one of the two.
+    unsafe { look_many(raw::pgk_lookup_many, table, positions, found) }
+}
+
+/// The answers of [`lookup_many`], by halving where the table is sorted: on every table and every list of positions it returns
+/// the same and leaves the same in `found`.
+///
+/// It looks once whether the table is sorted by line and then by column; equal tokens may follow each other. If so, it halves;
+/// if not, it does what [`lookup_many`] does. So this is the one to call unless the table is known not to be sorted. A decoded
+/// table is sorted by line always, and by column where the bundler wrote columns that do not fall, as all usual ones do.
+/// [`translate`] keeps the order, and [`compose`] that of the outer table.
+///
+/// On a sorted table it costs one pass over it and some tokens more for each position, so little more than one pass unless the
+/// table is short; on any other what [`lookup_many`] costs, and the tokens that are read until one falls. For one position
+/// [`lookup_index`] reads less: the line of every token, where this reads line and column of each.
+///
+/// ```
+/// use peghayrick::{decode_mapping, lookup_many_quick, table_size, tokens_of, written, Position, Refusal, NONE};
+///
+/// /// The source lines of positions in a map with one source and no names, all counted from 0.
+/// fn lines(mappings: &[u8], positions: &[Position]) -> Result<Vec<Option<u32>>, Refusal> {
+///     let mut table = vec![0; table_size(mappings)];
+///     let decoded = decode_mapping(mappings, 1, 0, &mut table)?;
+///     let table = written(&table, decoded.tokens);
+///     let mut found = vec![NONE; positions.len()];
+///     lookup_many_quick(table, positions, &mut found)?;
+///     let line = |&index| tokens_of(table).get(index as usize).filter(|t| t.get_source_id().is_some()).map(|t| t.src_line);
+///     Ok(found.iter().map(line).collect())
+/// }
+///
+/// let asked = [Position::new(0, 5), Position::new(0, 3), Position::new(0, 2)];
+/// // Columns 3 and 5, and columns 5 and 3: a table that falls is answered too.
+/// assert_eq!(lines(b"GAAA,EACA", &asked), Ok(vec![Some(1), Some(0), None]));
+/// assert_eq!(lines(b"KAAA,FACA", &asked), Ok(vec![Some(0), Some(1), None]));
+/// ```
+///
+/// # Errors
+/// As [`lookup_many`].
+pub fn lookup_many_quick(table: &[u32], positions: &[Position], found: &mut [u32]) -> Result<(), Refusal> {
+    // SAFETY: it is one of the two.
+    unsafe { look_many(raw::pgk_lookup_many_quick, table, positions, found) }
+}
+
+/// The two calls for many positions: the table, the positions and the places, each with its length.
+type LookMany = unsafe extern "C" fn(*const u32, usize, *const u32, usize, *mut u32, usize) -> raw::Answer;
+
+/// Lends all three to one of the two calls.
+///
+/// # Safety
+/// `call` is [`raw::pgk_lookup_many`] or [`raw::pgk_lookup_many_quick`].
+unsafe fn look_many(call: LookMany, table: &[u32], positions: &[Position], found: &mut [u32]) -> Result<(), Refusal> {
     let pairs = pairs_of(positions);
     // SAFETY: each slice is lent with its own pointer and length for the call; the one that is written overlaps nothing.
-    answered(unsafe {
-        raw::pgk_lookup_many(table.as_ptr(), table.len(), pairs.as_ptr(), pairs.len(), found.as_mut_ptr(), found.len())
-    })
-    .map(|_| ())
+    answered(unsafe { call(table.as_ptr(), table.len(), pairs.as_ptr(), pairs.len(), found.as_mut_ptr(), found.len()) })
+        .map(|_| ())
 }
 
 /// A name list: a text and the end of each name in it; a name begins where the one before it ends.

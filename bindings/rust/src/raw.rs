@@ -98,6 +98,14 @@ extern "C" {
         found: *mut u32,
         found_len: usize,
     ) -> Answer;
+    pub fn pgk_lookup_many_quick(
+        table: *const u32,
+        table_len: usize,
+        positions: *const u32,
+        positions_len: usize,
+        found: *mut u32,
+        found_len: usize,
+    ) -> Answer;
     pub fn pgk_compose(
         outer: *const u32,
         outer_len: usize,

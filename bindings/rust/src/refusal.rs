@@ -103,8 +103,8 @@ pub enum Refusal {
     /// 14: a name list's ends fall or pass its text, or it has more than 2,147,483,647 names.
     BadNames,
     /// 17: the list of positions has an odd length. No function of the crate gives it, since
-    /// [`lookup_many`](crate::lookup_many) takes whole positions; [`raw::pgk_lookup_many`](crate::raw::pgk_lookup_many)
-    /// answers with this code.
+    /// [`lookup_many`](crate::lookup_many) and [`lookup_many_quick`](crate::lookup_many_quick) take whole positions; their forms
+    /// in [`raw`](crate::raw) answer with this code.
     OddList,
     /// Another code: the archive that was linked is not of this crate's version.
     Unknown {

@@ -3,7 +3,8 @@
 use core::mem::{align_of, size_of, size_of_val};
 use core::{fmt, slice};
 
-/// As an id, a segment or an index that [`lookup_many`](crate::lookup_many) wrote: none.
+/// As an id, a segment or an index that [`lookup_many`](crate::lookup_many) or
+/// [`lookup_many_quick`](crate::lookup_many_quick) wrote: none.
 pub const NONE: u32 = u32::MAX;
 
 /// How many numbers a token has in a table.
@@ -181,8 +182,8 @@ impl fmt::Debug for Token {
     }
 }
 
-/// A generated position, as [`lookup_many`](crate::lookup_many) is asked for it. Line and column count from 0, the column in
-/// UTF-16 units.
+/// A generated position, as [`lookup_many`](crate::lookup_many) and [`lookup_many_quick`](crate::lookup_many_quick) are asked
+/// for it. Line and column count from 0, the column in UTF-16 units.
 ///
 /// ```
 /// use peghayrick::Position;

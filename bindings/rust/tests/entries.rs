@@ -1,4 +1,4 @@
-//! The version, the size of a table, the premises of writing, many positions at once, and what a token and a position derive.
+//! The version, the size of a table, the premises of writing, and what a token and a position derive.
 
 use peghayrick::*;
 use std::collections::HashSet;
@@ -145,63 +145,6 @@ fn premises_of_checked_mode() {
     let mut table = [0; 3 * WIDTH];
     assert!(decode_checked(b"+/////D,C,B", 0, 0, &mut table).is_ok());
     assert!(meets_premises(&table, 0, 0) && !meets_checked_premises(&table, 0, 0));
-}
-
-/// What one lookup after another says.
-fn one_by_one(table: &[u32], positions: &[Position]) -> Vec<u32> {
-    positions.iter().map(|at| lookup_index(table, at.line, at.col).unwrap().unwrap_or(NONE)).collect()
-}
-
-/// Every table of up to three tokens, in any order, on these positions, and each of them asked for twice.
-#[test]
-fn many_in_every_small_table() {
-    let numbers = [0, 1, NONE];
-    let places: Vec<Position> = (0..9).map(|k| Position::new(numbers[k / 3], numbers[k % 3])).collect();
-    let asked: Vec<Position> = places.iter().chain(places.iter().rev()).copied().collect();
-    let (mut none, mut some) = (0, 0);
-    for count in 0..=3u32 {
-        for number in 0..9usize.pow(count) {
-            let token = |k| {
-                let at = places[number / 9usize.pow(k) % 9];
-                Token::new(at.line, at.col, 0, 0, None, None)
-            };
-            let tokens: Vec<Token> = (0..count).map(token).collect();
-            let mut found = [7; 20];
-            assert_eq!(lookup_many(table_of(&tokens), &asked, &mut found), Ok(()));
-            assert_eq!(found[..18], one_by_one(table_of(&tokens), &asked), "{tokens:?}");
-            assert_eq!(found[18..], [7; 2]);
-            none += found.iter().filter(|&&index| index == NONE).count();
-            some += found[..18].iter().filter(|&&index| index < count).count();
-        }
-    }
-    assert_eq!(none + some, 820 * 18);
-    assert!(none > 1000 && some > 1000, "{none} {some}");
-}
-
-/// Tables of more tokens than are looked at together, in order and in none.
-#[test]
-fn many_in_long_tables() {
-    let mut seed = 88172645463325252u64;
-    let mut below = |n: u32| {
-        seed ^= seed << 13;
-        seed ^= seed >> 7;
-        seed ^= seed << 17;
-        (seed >> 16) as u32 % n
-    };
-    for count in [1, 63, 64, 65, 127, 128, 129, 1000] {
-        for sorted in [true, false] {
-            let mut places: Vec<Position> = (0..count).map(|_| Position::new(below(30), below(40))).collect();
-            if sorted {
-                places.sort_by_key(|at| (at.line, at.col));
-            }
-            let tokens: Vec<Token> = places.iter().map(|at| Token::new(at.line, at.col, 0, 0, None, None)).collect();
-            let asked: Vec<Position> = (0..32 * 42).map(|k| Position::new(k / 42, k % 42)).chain(places).collect();
-            let mut found = vec![7; asked.len()];
-            assert_eq!(lookup_many(table_of(&tokens), &asked, &mut found), Ok(()));
-            assert_eq!(found, one_by_one(table_of(&tokens), &asked), "{count} {sorted}");
-            assert!(found.contains(&NONE) && found.iter().any(|&index| index != NONE));
-        }
-    }
 }
 
 #[test]

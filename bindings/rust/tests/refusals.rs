@@ -129,43 +129,50 @@ fn translating() {
 #[test]
 fn looking() {
     let tokens = [Token::new(0, 1, 9, 0, Some(0), None), Token::new(0, 6, 9, 4, Some(0), None)];
-    let table = table_of(&tokens);
     let asked = [Position::new(0, 7), Position::new(0, 0), Position::new(0, 7)];
-    let mut found = [7u32; 4];
-    let mut call = |table: &[u32], room: usize| lookup_many(table, &asked, &mut found[..room]).unwrap_err();
-    for room in 0..3 {
-        holds(call(table, room), Refusal::NoRoom { needed: 3 }, 8, 3, None, "3 places are needed");
-    }
-    // A bad table comes first.
-    for numbers in [1, 6, 8, 12, 13] {
-        for room in 0..5 {
-            holds(call(&table[..numbers], room), Refusal::BadTable, 11, 0, None, "WIDTH numbers a token");
+    // In a sorted table, and in one that is not.
+    for (tokens, want) in [(tokens, [1, NONE, 1, 7]), ([tokens[1], tokens[0]], [0, NONE, 0, 7])] {
+        for many in [lookup_many, lookup_many_quick] {
+            let table = table_of(&tokens);
+            let mut found = [7u32; 4];
+            let mut call = |table: &[u32], room: usize| many(table, &asked, &mut found[..room]).unwrap_err();
+            for room in 0..3 {
+                holds(call(table, room), Refusal::NoRoom { needed: 3 }, 8, 3, None, "3 places are needed");
+            }
+            // A bad table comes first.
+            for numbers in [1, 6, 8, 12, 13] {
+                for room in 0..5 {
+                    holds(call(&table[..numbers], room), Refusal::BadTable, 11, 0, None, "WIDTH numbers a token");
+                }
+            }
+            assert_eq!(found, [7; 4]);
+            assert_eq!(many(&table[1..], &[], &mut []), Err(Refusal::BadTable));
+            assert_eq!(many(table, &asked, &mut found), Ok(()));
+            assert_eq!(found, want);
         }
     }
-    assert_eq!(found, [7; 4]);
-    assert_eq!(lookup_many(&table[1..], &[], &mut []), Err(Refusal::BadTable));
-    assert_eq!(lookup_many(table, &asked, &mut found), Ok(()));
-    assert_eq!(found, [1, NONE, 1, 7]);
 }
 
-/// Code 17, which only the C form gives: after a bad table and before too little room.
+/// Code 17, which only the C forms give: after a bad table and before too little room.
 #[test]
 fn odd_lists() {
-    let (table, asked, mut found) = ([0u32; WIDTH], [0u32; 4], [7u32; 2]);
-    let mut call = |numbers: usize, pairs: usize, room: usize| {
-        // SAFETY: each pointer is that of a list which has the length at least.
-        let a = unsafe { raw::pgk_lookup_many(table.as_ptr(), numbers, asked.as_ptr(), pairs, found.as_mut_ptr(), room) };
-        (a.code, a.number)
-    };
     let odd = Refusal::OddList;
     holds(odd, odd, 17, 0, None, "hand in two numbers for each position");
-    for room in 0..3 {
-        assert_eq!(call(WIDTH, 1, room), (odd.code(), odd.number()));
-        assert_eq!(call(WIDTH, 3, room), (odd.code(), odd.number()));
-        assert_eq!(call(WIDTH - 1, 3, room), (11, 0));
+    for many in [raw::pgk_lookup_many, raw::pgk_lookup_many_quick] {
+        let (table, asked, mut found) = ([0u32; WIDTH], [0u32; 4], [7u32; 2]);
+        let mut call = |numbers: usize, pairs: usize, room: usize| {
+            // SAFETY: each pointer is that of a list which has the length at least.
+            let a = unsafe { many(table.as_ptr(), numbers, asked.as_ptr(), pairs, found.as_mut_ptr(), room) };
+            (a.code, a.number)
+        };
+        for room in 0..3 {
+            assert_eq!(call(WIDTH, 1, room), (odd.code(), odd.number()));
+            assert_eq!(call(WIDTH, 3, room), (odd.code(), odd.number()));
+            assert_eq!(call(WIDTH - 1, 3, room), (11, 0));
+        }
+        assert_eq!(call(WIDTH, 4, 1), (8, 2));
+        assert_eq!(found, [7; 2]);
     }
-    assert_eq!(call(WIDTH, 4, 1), (8, 2));
-    assert_eq!(found, [7; 2]);
 }
 
 #[test]
@@ -204,6 +211,7 @@ fn nothing_lent() {
     assert_eq!(serialize_mappings(&empty, TokenChunk::default(), &mut []), Ok(Encoded { bytes: 0, next: TokenChunk::default() }));
     assert_eq!(lookup_token(&empty, 0, 0), Ok(None));
     assert_eq!(lookup_many(&empty, &[], &mut empty.clone()), Ok(()));
+    assert_eq!(lookup_many_quick(&empty, &[], &mut empty.clone()), Ok(()));
     assert_eq!(table_size(&[]), 0);
     assert!(meets_premises(&empty, 0, 0));
     assert_eq!(translate(&mut empty.clone(), 1, 1, 1), Ok(()));
@@ -219,9 +227,11 @@ fn any_alignment() {
         let table = &mut numbers[start..start + 2 * WIDTH];
         assert_eq!(decode_mapping(b"AAEG;C", 1, 0, table), Ok(Decoded { tokens: 2, offset: 6 }));
         assert_eq!(lookup_index(table, 1, 1), Ok(Some(1)));
-        let mut found = [7; 3];
-        assert_eq!(lookup_many(table, &[Position::new(1, 1)], &mut found[start % 3..]), Ok(()));
-        assert_eq!(found[start % 3], 1);
+        for many in [lookup_many, lookup_many_quick] {
+            let mut found = [7; 3];
+            assert_eq!(many(table, &[Position::new(1, 1)], &mut found[start % 3..]), Ok(()));
+            assert_eq!(found[start % 3], 1);
+        }
         assert_eq!(translate_tokens(&mut [tokens_of(table)[1]], 1, 1, 1), Ok(()));
         let mut out = [0u8; 6];
         assert_eq!(serialize_mappings(table, TokenChunk::first(2), &mut out).map(|e| e.bytes), Ok(6));

@@ -106,8 +106,10 @@ fn the_others_pass_it_over() {
         assert_eq!(&out, b"AAEG;C#");
         assert_eq!((lookup_index(table, 0, 7), lookup_index(table, 1, 0)), (Ok(Some(0)), Ok(None)));
         assert_eq!(lookup_token(table, 1, 1), Ok(Some(tokens[1])));
-        let (asked, mut found) = ([Position::new(0, 7), Position::new(1, 0), Position::new(1, 1)], [7; 3]);
-        assert_eq!((lookup_many(table, &asked, &mut found), found), (Ok(()), [0, NONE, 1]));
+        for many in [lookup_many, lookup_many_quick] {
+            let (asked, mut found) = ([Position::new(0, 7), Position::new(1, 0), Position::new(1, 1)], [7; 3]);
+            assert_eq!((many(table, &asked, &mut found), found), (Ok(()), [0, NONE, 1]));
+        }
         assert!(meets_premises(table, 1, 0) && meets_checked_premises(table, 1, 0));
         assert!(!meets_premises(table, 0, 0) && !meets_checked_premises(table, 0, 0));
     }

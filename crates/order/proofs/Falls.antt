@@ -78,6 +78,7 @@ module _ (table : List ℕ) where
     where
       Reach : ℕ → Type 0
       Reach k = UpTo (tokenAt table i .«dst_line») (tokenAt table i .«dst_col») (tokenAt table (i + k) .«dst_line») (tokenAt table (i + k) .«dst_col»)
+
       reach : (k : ℕ) → i + k < n → Reach k
       reach zero g = rw add-zero (inr (refl, omega arith))
       reach (suc k) g =

@@ -5,7 +5,7 @@
 -- leaves one answer and one content of everything lent.
 -- Demand 2: the answers are those of the definitions, and the definitions give the worked texts (Worked.antt).
 -- Demand 3: what is written reads back.
-use mathlib.Core.Path.{_≡_, sym, _∙_, ap}
+use mathlib.Core.Path.{_≡_, refl, sym, _∙_, ap}
 use mathlib.Core.List.{List}
 use Prim.Native.Nat.{ℕ, _<_}
 use lib.ListN.{length, getD}
@@ -36,6 +36,10 @@ use Rattle.lookup.specs.Lookup.{Looks}
 use Rattle.lookup.proofs.Best as lookup
 use Rattle.lookup_many.specs.Many.{pairs, lineOf, colOf, LooksMany, Told}
 use Rattle.lookup_many.proofs.Whole as many
+use Rattle.order.specs.Order.{SortedSays}
+use Rattle.order.proofs.Falls as order
+use Rattle.halving.specs.Law.{HalvingLaw}
+use Rattle.halving.proofs.Law as halving
 use Rattle.names.specs.Names.{NameList, placeOf}
 use Rattle.compose.specs.Compose.{Maps, Composes}
 use Rattle.compose.proofs.Unique as compose
@@ -43,6 +47,8 @@ use Rattle.premises.specs.Premises.{Decides}
 use Rattle.premises.proofs.Unique as premises
 use Rattle.checked_premises.specs.Checked.{DecidesChecked}
 use Rattle.checked_premises.proofs.Unique as checked
+use Rattle.peghayrick.proofs.pgk_lookup_many.Reads as plain
+use Rattle.peghayrick.proofs.pgk_lookup_many_quick.Reads as quick
 use Rattle.peghayrick.specs.declared.DecodedOut.{DecodedOut}
 use Rattle.peghayrick.specs.declared.EncodedOut.{EncodedOut}
 use Rattle.peghayrick.specs.declared.ComposedOut.{ComposedOut}
@@ -94,7 +100,7 @@ pub one-lookup : (table : List ℕ) (line col : ℕ) (r s : Answer) → Goes (Lo
 one-lookup table line col r s a b =
     a .says ∙ ap foundOut (lookup.one-answer table line col (a .inner) (b .inner) (a .holds) (b .holds)) ∙ sym (b .says)
 
--- pgk_lookup_many
+-- pgk_lookup_many, pgk_lookup_many_quick: so both answer the same, and leave the same in the lent list
 pub one-lookup-many : (table positions found : List ℕ) (r s : Answer) (x y : List ℕ)
     → Goes (λ c. LooksMany table positions found c x) answerOf r → Goes (λ c. LooksMany table positions found c y) answerOf s → (r ≡ s) × (x ≡ y)
 one-lookup-many table positions found r s x y a b =
@@ -114,6 +120,19 @@ pub index-or-none : (table positions found : List ℕ) (r : Answer) (x : List �
     → (k : ℕ) → k < pairs (length positions) → Told table (lineOf positions k) (colOf positions k) (getD x k 0)
 index-or-none table positions found r x a d k h =
     many.told table positions found (a .inner) x (a .holds) (ap (λ (o : Answer). o .code) (sym (a .says)) ∙ d) k h
+
+-- the contracts of the two, as the prover reads them from the code, are one: what they ask of a caller, and what they promise
+pub one-contract : (plain.Pre ≡ quick.Pre) × (plain.Post ≡ quick.Post)
+one-contract = (refl, refl)
+
+-- pgk_lookup_many_quick chooses its way by `sorted`, which says of all tokens, and not of neighbours alone, that none falls; and where
+-- one does, which is the first
+pub sorted-says : SortedSays
+sorted-says = order.sorted-says
+
+-- and it may halve, since in a sorted table the last token at or before a position, if it is on the asked line, is the best, and else none fits
+pub halving-law : HalvingLaw
+halving-law = halving.halving-law
 
 -- pgk_compose
 pub one-compose : (m : Maps) (result added : List ℕ) (r s : ComposedOut) (x y v w : List ℕ)

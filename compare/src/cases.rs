@@ -84,7 +84,8 @@ thread_local! {
 }
 
 /// The codes that each part can give; for what checked mode alone has, the fields; for the premises, no and yes; for the positions of
-/// many that the crate judges too, none and a token, and for its tables, whether one is sorted. A decode's TooBig takes a text of 4 GiB, which only `far` has.
+/// many that the crate judges too, none and a token; for its tables, whether one is sorted. A decode's TooBig takes a text of 4 GiB,
+/// which only `far` has.
 const DUE: [(&str, &[u64]); 18] = [
     ("decode, lenient", &[0, 1, 2, 3, 4, 5, 7]),
     ("decode, checked", &[0, 1, 2, 3, 4, 5, 6, 7]),

@@ -34,7 +34,7 @@ fn once(mut asked: Vec<Place>) -> Vec<Place> {
 }
 
 /// At, before and past every token, on its line.
-fn beside(places: &[Place]) -> Vec<Place> {
+pub fn beside(places: &[Place]) -> Vec<Place> {
     let near = |&(line, col): &Place| [(line, col.saturating_sub(1)), (line, col), (line, col.saturating_add(1))];
     once(places.iter().flat_map(near).collect())
 }
@@ -157,7 +157,7 @@ fn steps(go: Go) {
     }
 }
 
-pub const FALLS: usize = 6;
+const FALLS: usize = 6;
 
 /// So many tokens, sorted but for the one at `i`, which stands before the one before it.
 pub fn fallen(kind: usize, count: usize, i: usize) -> Vec<Place> {

@@ -5,6 +5,10 @@ use peghayrick::{TokenChunk, WIDTH};
 
 use crate::texts::Names;
 
+unsafe extern "C" {
+    fn pgk_lookup_many_quick(table: *const u32, n: usize, positions: *const u32, m: usize, found: *mut u32, k: usize) -> Answer;
+}
+
 pub fn decode_lenient(text: &[u8], sources: u32, names: u32, table: &mut [u32]) -> Decoded {
     unsafe { pgk_decode_lenient(text.as_ptr(), text.len(), sources, names, table.as_mut_ptr(), table.len()) }
 }
@@ -32,6 +36,12 @@ pub fn lookup(table: &[u32], line: u32, col: u32) -> Answer {
 pub fn lookup_many(table: &[u32], positions: &[u32], found: &mut [u32]) -> Answer {
     let (p, f) = (positions.as_ptr(), found.as_mut_ptr());
     unsafe { pgk_lookup_many(table.as_ptr(), table.len(), p, positions.len(), f, found.len()) }
+}
+
+/// The same answers: by halving where the table is sorted.
+pub fn lookup_many_quick(table: &[u32], positions: &[u32], found: &mut [u32]) -> Answer {
+    let (p, f) = (positions.as_ptr(), found.as_mut_ptr());
+    unsafe { pgk_lookup_many_quick(table.as_ptr(), table.len(), p, positions.len(), f, found.len()) }
 }
 
 pub fn compose(outer: &[u32], outer_names: &Names, inner: &[u32], inner_names: &Names, result: &mut [u32], added: &mut [u32]) -> Composed {

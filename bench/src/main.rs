@@ -252,14 +252,17 @@ fn map_of(tokens: &[Token], names: &Names, sources: usize) -> SourceMap<'static>
 }
 
 /// Positions of tokens all over a list, a column past each.
-fn log_of(tokens: &[Token], count: usize) -> Vec<(u32, u32)> {
-    let mut r = Random(77);
+fn log_from(r: &mut Random, tokens: &[Token], count: usize) -> Vec<(u32, u32)> {
     (0..count)
         .map(|_| {
             let t = tokens[r.below(tokens.len() as u64) as usize];
             (t.get_dst_line(), t.get_dst_col() + 1)
         })
         .collect()
+}
+
+fn log_of(tokens: &[Token], count: usize) -> Vec<(u32, u32)> {
+    log_from(&mut Random(77), tokens, count)
 }
 
 fn lookup(seconds: f64) {
@@ -388,6 +391,110 @@ fn many(seconds: f64) {
         ];
         for (name, tokens, log) in &rows {
             many_of(seconds, name, tokens, log);
+        }
+    }
+}
+
+/// Each five tokens at one position.
+fn equal_fives(tokens: &[Token]) -> Vec<Token> {
+    let moved = |(i, t): (usize, &Token)| {
+        let (line, col) = (tokens[i - i % 5].get_dst_line(), tokens[i - i % 5].get_dst_col());
+        Token::new(line, col, t.get_src_line(), t.get_src_col(), t.get_source_id(), t.get_name_id())
+    };
+    tokens.iter().enumerate().map(moved).collect()
+}
+
+/// So many logs are asked in turn. Where one is asked again and again, the processor learns its branches, and its tokens stay in the
+/// cache.
+const LOGS: usize = 512;
+
+/// Logs of so many positions, each of them so many times, as the library takes them.
+fn logs_of(tokens: &[Token], positions: usize, times: usize) -> Vec<Vec<u32>> {
+    let mut r = Random(77);
+    let mut log = || log_from(&mut r, tokens, positions).repeat(times).into_iter().flat_map(|(line, col)| [line, col]).collect();
+    (0..LOGS).map(|_| log()).collect()
+}
+
+/// The quick call, for one log after another.
+fn quick_of(seconds: f64, name: &str, tokens: &[Token], logs: &[Vec<u32>]) {
+    let table = table_of(tokens);
+    let positions = logs[0].len() / 2;
+    let (mut found, mut other) = (vec![0u32; positions], vec![0u32; positions]);
+    for log in logs.iter().take(16) {
+        assert!(library::lookup_many_quick(&table, log, &mut found).code == 0);
+        assert!(library::lookup_many(&table, log, &mut other).code == 0);
+        assert!(found == other, "{name}: not what the plain call says");
+    }
+    let sorted = tokens.windows(2).all(|w| w[0].get_dst_line() <= w[1].get_dst_line());
+    let map = sorted.then(|| map_of(tokens, &Names::default(), 10));
+    let before = map.as_ref().map(|map| map.generate_lookup_table());
+    let in_turn = || {
+        let mut each = logs.iter().cycle();
+        move || each.next().expect("a log")
+    };
+    let (mut one, mut two, mut three, mut four) = (in_turn(), in_turn(), in_turn(), in_turn());
+    let mut things = vec![
+        plain(|| assert!(black_box(library::lookup_many_quick(&table, one(), &mut found)).code == 0)),
+        plain(|| assert!(black_box(library::lookup_many(&table, two(), &mut other)).code == 0)),
+        plain(|| assert!(black_box(library::lookup_many_quick(&table, black_box(&[]), &mut [])).code == 0)),
+    ];
+    if let (Some(map), Some(before)) = (&map, &before) {
+        things.push(plain(move || {
+            let lines = map.generate_lookup_table();
+            for pair in three().chunks_exact(2) {
+                assert!(black_box(map.lookup_token(&lines, pair[0], pair[1])).is_some());
+            }
+        }));
+        things.push(plain(move || {
+            for pair in four().chunks_exact(2) {
+                assert!(black_box(map.lookup_token(before, pair[0], pair[1])).is_some());
+            }
+        }));
+    }
+    let r = timed(seconds, things);
+    let ratio = |i: usize| match r.ratios.get(i) {
+        None => "-".into(),
+        Some(ratio) if ratio.0 >= 100.0 => format!("{:.0}", ratio.0),
+        Some(&ratio) => shown(ratio),
+    };
+    println!(
+        "{:<10} {:>8} {:>10} {:>5} {:>18} {:>20} {:>20} {:>18} {:>10.2} {:>6}",
+        name,
+        tokens.len(),
+        positions,
+        logs.len(),
+        ratio(0),
+        ratio(2),
+        ratio(3),
+        ratio(1),
+        r.medians[0] * 1e6,
+        r.runs
+    );
+}
+
+fn quick(seconds: f64) {
+    println!("\nlookup, the quick call: to the plain one; to the crate with and without the making of its table of lines; to");
+    println!("the call for no position, which looks whether the table is sorted. {LOGS} logs in turn, or one again and again");
+    println!(
+        "{:<10} {:>8} {:>10} {:>5} {:>18} {:>20} {:>20} {:>18} {:>10} {:>6}",
+        "table", "tokens", "positions", "logs", "plain", "made each time", "made before", "no position", "us/call", "runs"
+    );
+    for count in [1_000, 100_000, LARGE] {
+        let by_line = made_tokens(Kind::Mixed, count);
+        let (one_line, mixed, equals) = (on_one_line(&by_line), shuffled(by_line.clone()), equal_fives(&by_line));
+        let rows = [
+            ("by line", &by_line, 40, 1),
+            ("one line", &one_line, 40, 1),
+            ("shuffled", &mixed, 40, 1),
+            ("repeats", &by_line, 5, 8),
+            ("equals", &equals, 40, 1),
+            ("by line", &by_line, 2, 1),
+            ("by line", &by_line, 1, 1),
+        ];
+        for (name, tokens, positions, times) in rows {
+            let logs = logs_of(tokens, positions, times);
+            quick_of(seconds, name, tokens, &logs);
+            quick_of(seconds, name, tokens, &logs[..1]);
         }
     }
 }
@@ -566,6 +673,7 @@ fn run() -> Result<(), String> {
     if asked("lookup") {
         lookup(seconds);
         many(seconds);
+        quick(seconds);
     }
     if asked("compose") {
         compose(seconds);

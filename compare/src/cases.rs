@@ -84,8 +84,9 @@ thread_local! {
 }
 
 /// The codes that each part can give; for what checked mode alone has, the fields; for the premises, no and yes; for the positions of
-/// many that the crate judges too, none and a token. A decode's TooBig takes a text of 4 GiB, which only `far` has.
-const DUE: [(&str, &[u64]); 16] = [
+/// many that the crate judges too, none and a token; for its tables, whether one is sorted. A decode's TooBig takes a text of 4 GiB,
+/// which only `far` has.
+const DUE: [(&str, &[u64]); 18] = [
     ("decode, lenient", &[0, 1, 2, 3, 4, 5, 7]),
     ("decode, checked", &[0, 1, 2, 3, 4, 5, 6, 7]),
     ("checked, a wide value", &[0, 1, 2, 3, 4]),
@@ -100,7 +101,9 @@ const DUE: [(&str, &[u64]); 16] = [
     ("translate, records", &[0, 12]),
     ("lookup", &[0, 11]),
     ("many", &[0, 8, 11, 17]),
+    ("many, quick", &[0, 8, 11, 17]),
     ("many, by the crate", &[0, 1]),
+    ("many, a sorted table", &[0, 1]),
     ("compose", &[0, 7, 8, 11, 13, 14]),
 ];
 

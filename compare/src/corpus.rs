@@ -12,8 +12,10 @@ use crate::cases::{Case, Random, Tally};
 use crate::composing::{Pair, names_of};
 use crate::decoding::Text;
 use crate::looking::Ask;
+use crate::many::Asks;
 use crate::model::{self, Inner, Mode, NONE, Names, Outer, Token, TokenChunk, sixes, table_of};
 use crate::ours::{self, LentBytes, writer};
+use crate::sorted;
 use crate::theirs::BUILDS;
 use crate::translating::Move;
 
@@ -112,14 +114,20 @@ fn one_map(corpus: &Path, map: &Value, random: &mut Random) -> Checked<()> {
     }
     Move { table: table.clone(), line: 1000, source: 7, name: 9 }.check()?;
     Move { table, line: 0, source: NONE - sources + 1, name: 0 }.check()?;
-    if tokens.len() < 100_000 {
-        let places: Vec<(u32, u32)> = tokens.iter().map(|t| (t.dst_line, t.dst_col)).collect();
-        for _ in 0..20 {
+    let places: Vec<(u32, u32)> = tokens.iter().map(|t| (t.dst_line, t.dst_col)).collect();
+    let asked: Vec<(u32, u32)> = (0..40)
+        .map(|_| {
             let (line, col) = random.pick(&places);
-            Ask { places: places.clone(), line, col: col + random.below(3) as u32 }.check()?;
+            (line, col + random.below(3) as u32)
+        })
+        .collect();
+    if tokens.len() < 100_000 {
+        for &(line, col) in &asked[..20] {
+            Ask { places: places.clone(), line, col }.check()?;
         }
     }
-    Ok(())
+    same("sorted", sorted::is_sorted(&tokens), true)?;
+    Asks::of(places, &asked).check().map(|_| ())
 }
 
 fn names_in(path: &Path) -> Checked<Names> {

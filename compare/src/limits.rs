@@ -4,7 +4,7 @@ use std::time::Instant;
 
 use crate::cases::Tally;
 use crate::model::{self, Answer, MOST, Mode, NONE, TokenChunk, WIDTH, answer};
-use crate::ours::{self, Entry, Lent};
+use crate::ours::{self, Entry, Lent, Many};
 
 unsafe extern "C" {
     fn mmap(at: *mut u8, len: usize, protection: i32, flags: i32, file: i32, offset: i64) -> *mut u8;
@@ -47,9 +47,11 @@ fn tables(at: *mut u32) -> Result<(), String> {
         for tokens in 0..15 {
             let last = if tokens == 0 { u64::from(NONE) } else { tokens as u64 - 1 };
             expect("lookup, a table", ours::raw::lookup(at, 7 * tokens, 0, 0), answer(0, last))?;
-            let mut found = Lent::new(2);
-            expect("many, a table", ours::raw::lookup_many(at, 7 * tokens, &[0, 0], &mut found), answer(0, 0))?;
-            expect("many, what is found", found.is(&[last as u32]), true)?;
+            for call in Many::ALL {
+                let mut found = Lent::new(2);
+                expect("many, a table", ours::raw::lookup_many(call, at, 7 * tokens, &[0, 0], &mut found), answer(0, 0))?;
+                expect("many, what is found", found.is(&[last as u32]), true)?;
+            }
             expect("premises, a table", ours::raw::meets_premises(Mode::Lenient, at, 7 * tokens, 1, 1), 1)?;
             expect("translate, a table", ours::raw::translate(at, 7 * tokens, 0, 0, 0), answer(0, 0))?;
         }
@@ -61,24 +63,24 @@ fn tables(at: *mut u32) -> Result<(), String> {
 }
 
 /// No table is refused before an odd list, and that before no room; lists of more positions than 32 bits count.
-fn many(at: *mut u32) -> Result<(), String> {
+fn many(call: Many, at: *mut u32) -> Result<(), String> {
     let mut found = Lent::new(2);
     let odd = answer(model::ODD_LIST, 0);
     let no_room = |pairs: usize| answer(model::NO_ROOM, pairs as u64);
     unsafe {
         for numbers in no_tables() {
             for positions in [&[][..], &[0], &[0; 4], &[0; 6]] {
-                expect("many", ours::raw::lookup_many(at, numbers, positions, &mut found), BAD)?;
+                expect("many", ours::raw::lookup_many(call, at, numbers, positions, &mut found), BAD)?;
             }
         }
         // The largest table is taken: what is refused is the list, or the room.
         for numbers in [0, WIDTH, LARGEST] {
-            expect("many, an odd list", ours::raw::lookup_many(at, numbers, &[0; 7], &mut found), odd)?;
-            expect("many, no room", ours::raw::lookup_many(at, numbers, &[0; 6], &mut found), no_room(3))?;
+            expect("many, an odd list", ours::raw::lookup_many(call, at, numbers, &[0; 7], &mut found), odd)?;
+            expect("many, no room", ours::raw::lookup_many(call, at, numbers, &[0; 6], &mut found), no_room(3))?;
             let long = std::slice::from_raw_parts(at, OVER);
-            expect("many, a long odd list", ours::raw::lookup_many(at, numbers, long, &mut found), odd)?;
+            expect("many, a long odd list", ours::raw::lookup_many(call, at, numbers, long, &mut found), odd)?;
             let even = &long[1..];
-            expect("many, a long list", ours::raw::lookup_many(at, numbers, even, &mut found), no_room(even.len() / 2))?;
+            expect("many, a long list", ours::raw::lookup_many(call, at, numbers, even, &mut found), no_room(even.len() / 2))?;
         }
     }
     expect("many, nothing written", found.is(&[]), true)
@@ -137,7 +139,10 @@ pub fn run(tally: &mut Tally) {
     let result = match (zeros(4 * OVER), zeros(4 * OVER)) {
         (Some(first), Some(second)) => {
             let second = second.cast();
-            tables(first.cast()).and_then(|()| many(second)).and_then(|()| chunks(second)).and_then(|()| names(second))
+            tables(first.cast())
+                .and_then(|()| Many::ALL.into_iter().try_for_each(|call| many(call, second)))
+                .and_then(|()| chunks(second))
+                .and_then(|()| names(second))
         }
         _ => {
             println!("no room for lists at the limits: left out");

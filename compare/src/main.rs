@@ -13,6 +13,7 @@ mod many;
 mod model;
 mod ours;
 mod record;
+mod sorted;
 mod theirs;
 mod translating;
 mod writing;

@@ -1,10 +1,12 @@
-//! Many positions in one call. Ours is held to the model, to one lookup after another, and to the crate where its lookup has no way to
-//! differ. The library reads the table in blocks of 64 tokens: the tables here end before, at and past a block's end.
+//! Many positions in one call, by the plain call and by the quick one. Each is held to the model, to one lookup after another, and to
+//! the crate where its lookup has no way to differ; and the quick one to the plain one. The plain one reads the table in blocks of 64
+//! tokens: the tables here end before, at and past a block's end. sorted.rs has those that the quick one is in need of.
 
 use crate::cases::{Case, Class, EDGES, Random, Tally, met_code, other_segments};
 use crate::looking::{self, Ask, LINES};
 use crate::model::{self, NONE, Token, WIDTH, table_of, tokens_of};
-use crate::ours::{self, Lent};
+use crate::ours::{self, Lent, Many};
+use crate::sorted;
 use crate::theirs::BUILDS;
 
 const BLOCK: usize = 64;
@@ -87,19 +89,30 @@ impl Case for Asks {
         let table = self.table();
         let (want, numbers) = model::lookup_many(&table, &self.positions, self.room);
         for (table, which) in [(&table, ""), (&other_segments(&table), ", with other segments")] {
-            let mut found = Lent::new(self.room);
-            let got = ours::lookup_many(table, &self.positions, &mut found);
-            if got != want {
-                return Err(format!("ours {got:?}, the model {want:?}{which}"));
+            let [plain, quick] = Many::ALL.map(|call| {
+                let mut found = Lent::new(self.room);
+                (ours::lookup_many(call, table, &self.positions, &mut found), found)
+            });
+            for ((got, found), name) in [(&plain, "ours"), (&quick, "our quick call")] {
+                if *got != want {
+                    return Err(format!("{name} {got:?}, the model {want:?}{which}"));
+                }
+                if !found.is(&numbers) {
+                    return Err(format!("{name} {:?}, and {numbers:?} was due with the rest as it was{which}", found.numbers()));
+                }
             }
-            if !found.is(&numbers) {
-                return Err(format!("ours {:?}, and {numbers:?} was due with the rest as it was{which}", found.numbers()));
+            if quick != plain {
+                return Err(format!("the quick call differs from the plain one in what is lent{which}"));
             }
         }
         met_code("many", want.code);
+        met_code("many, quick", want.code);
         if want.code == model::DONE {
+            // Both calls gave these numbers.
+            let tokens = tokens_of(&table);
+            met_code("many, a sorted table", sorted::is_sorted(&tokens).into());
             one_by_one(&table, &self.positions, &numbers)?;
-            by_crate(&tokens_of(&table), &self.positions, &numbers)?;
+            by_crate(&tokens, &self.positions, &numbers)?;
         }
         Ok(vec![])
     }
@@ -107,8 +120,11 @@ impl Case for Asks {
     fn smaller(&self) -> Vec<Asks> {
         let (tokens, pairs) = (self.places.len(), self.positions.len() / 2);
         let mut list = Vec::new();
-        let parts =
-            |n: usize| [(0, n / 2), (n / 2, n)].into_iter().chain((0..n).map(|i| (i, i + 1))).filter(|(from, to)| from < to);
+        // Halves, sixteenths, and each by itself where there are not too many.
+        let parts = |n: usize| {
+            let steps = [n.div_ceil(2), n.div_ceil(16), 1].into_iter().filter(move |&step| step > 1 || n <= 300);
+            steps.flat_map(move |step| (0..n).step_by(step.max(1)).map(move |from| (from, n.min(from + step))))
+        };
         for (from, to) in parts(tokens) {
             let mut a = self.clone();
             a.places.drain(from..to);
@@ -265,7 +281,7 @@ pub fn shaped(random: &mut Random, shape: usize, count: usize) -> Vec<(u32, u32)
 }
 
 /// Positions at every token, a column before and past it, a line before and past it, and in the corners.
-fn around(places: &[(u32, u32)]) -> Vec<(u32, u32)> {
+pub fn around(places: &[(u32, u32)]) -> Vec<(u32, u32)> {
     let near = |&(line, col): &(u32, u32)| {
         let columns = [(line, col), (line, col.wrapping_sub(1)), (line, col.wrapping_add(1))];
         columns.into_iter().chain([(line.wrapping_sub(1), col), (line.wrapping_add(1), col)])
@@ -301,9 +317,9 @@ fn shapes(random: &mut Random, times: usize, go: &mut dyn FnMut(Asks) -> bool) {
 }
 
 /// Any count in any shape; in some cases too much room, too little, an odd list or no table.
-fn random_asks(random: &mut Random, cases: usize, go: &mut dyn FnMut(Asks) -> bool) {
+fn random_asks(random: &mut Random, cases: usize, most: usize, go: &mut dyn FnMut(Asks) -> bool) {
     for _ in 0..cases {
-        let count = if random.one_in(2) { random.pick(&COUNTS) } else { random.below(201) };
+        let count = if most <= 200 && random.one_in(2) { random.pick(&COUNTS) } else { random.below(most + 1) };
         let shape = random.below(SHAPES);
         let places = shaped(random, shape, count);
         let asked = some_around(random, &places);
@@ -336,6 +352,8 @@ pub fn run(tally: &mut Tally, seed: u64, scale: usize) {
         tally.group(&format!("many: every list of {tokens} tokens at a block's end"), |go| across(tokens, go));
     }
     tally.group("many: every list of positions", all_positions);
+    sorted::run(tally);
     tally.group("many: every shape", |go| shapes(&mut Random::new(seed, "shapes"), 40 * scale, go));
-    tally.group("many: lists", |go| random_asks(&mut Random::new(seed, "many asks"), 150_000 * scale, go));
+    tally.group("many: lists", |go| random_asks(&mut Random::new(seed, "many asks"), 150_000 * scale, 200, go));
+    tally.group("many: long lists", |go| random_asks(&mut Random::new(seed, "long many asks"), 1_000 * scale, 5_000, go));
 }

@@ -12,6 +12,7 @@ pub struct DecodedOut {
 }
 
 type DecodeFn = unsafe extern "C" fn(*const u8, usize, u32, u32, *mut u32, usize) -> DecodedOut;
+type ManyFn = unsafe extern "C" fn(*const u32, usize, *const u32, usize, *mut u32, usize) -> Answer;
 
 unsafe extern "C" {
     fn pgk_decode_lenient(text: *const u8, n: usize, sources: u32, names: u32, table: *mut u32, k: usize) -> DecodedOut;
@@ -20,6 +21,7 @@ unsafe extern "C" {
     fn pgk_translate_tokens(tokens: *mut Token, n: usize, line: u32, source: u32, name: u32) -> Answer;
     fn pgk_lookup(table: *const u32, n: usize, line: u32, col: u32) -> Answer;
     fn pgk_lookup_many(table: *const u32, n: usize, positions: *const u32, m: usize, found: *mut u32, k: usize) -> Answer;
+    fn pgk_lookup_many_quick(table: *const u32, n: usize, positions: *const u32, m: usize, found: *mut u32, k: usize) -> Answer;
     fn pgk_table_size(text: *const u8, n: usize) -> usize;
     fn pgk_meets_premises(table: *const u32, n: usize, sources: u32, names: u32) -> u64;
     fn pgk_meets_checked_premises(table: *const u32, n: usize, sources: u32, names: u32) -> u64;
@@ -32,6 +34,7 @@ fn pattern(i: usize) -> u32 {
 }
 
 /// Numbers to lend, between two guards, all of it the pattern at first.
+#[derive(PartialEq)]
 pub struct Lent {
     memory: Vec<u32>,
     len: usize,
@@ -140,9 +143,27 @@ pub fn lookup(table: &[u32], line: u32, col: u32) -> Answer {
     answer
 }
 
-pub fn lookup_many(table: &[u32], positions: &[u32], found: &mut Lent) -> Answer {
+/// The calls for many positions, which answer alike.
+#[derive(Clone, Copy, PartialEq, Eq, Debug)]
+pub enum Many {
+    Plain,
+    Quick,
+}
+
+impl Many {
+    pub const ALL: [Many; 2] = [Many::Plain, Many::Quick];
+
+    fn function(self) -> ManyFn {
+        match self {
+            Many::Plain => pgk_lookup_many,
+            Many::Quick => pgk_lookup_many_quick,
+        }
+    }
+}
+
+pub fn lookup_many(call: Many, table: &[u32], positions: &[u32], found: &mut Lent) -> Answer {
     let (t, p) = (table.to_vec(), positions.to_vec());
-    let answer = unsafe { raw::lookup_many(t.as_ptr(), t.len(), &p, found) };
+    let answer = unsafe { raw::lookup_many(call, t.as_ptr(), t.len(), &p, found) };
     assert!(t == table && p == positions, "what was lent for reading changed");
     answer
 }
@@ -180,8 +201,8 @@ pub mod raw {
         unsafe { pgk_lookup(table, numbers, line, col) }
     }
 
-    pub unsafe fn lookup_many(table: *const u32, numbers: usize, positions: &[u32], found: &mut Lent) -> Answer {
-        unsafe { pgk_lookup_many(table, numbers, positions.as_ptr(), positions.len(), found.ptr(), found.len) }
+    pub unsafe fn lookup_many(call: Many, table: *const u32, numbers: usize, positions: &[u32], found: &mut Lent) -> Answer {
+        unsafe { call.function()(table, numbers, positions.as_ptr(), positions.len(), found.ptr(), found.len) }
     }
 
     pub unsafe fn meets_premises(mode: Mode, table: *const u32, numbers: usize, sources: u32, names: u32) -> u64 {

@@ -13,6 +13,7 @@ use crate::decoding::{self, Text};
 use crate::looking::{self, Ask};
 use crate::many::{self, Asks};
 use crate::model::{NONE, Names, Six, Token, TokenChunk, WIDTH, bad_table, is_delimiter, sixes, table_of, tokens_of};
+use crate::sorted;
 use crate::theirs::{BUILDS, RELEASE};
 use crate::translating::Move;
 use crate::writing::{self, Write};
@@ -100,7 +101,13 @@ fn decoded(case: &Text) -> Option<Decoded> {
     for start in starts {
         if run(1, &text[..decoding::segment_end(bytes, start)]).is_err() {
             let tokens = run(1, &text[..start]).expect("the text before the refused segment");
-            return Some(Decoded { code: refused.code, number: refused.number, offset: case.place(start, refused), start, tokens });
+            return Some(Decoded {
+                code: refused.code,
+                number: refused.number,
+                offset: case.place(start, refused),
+                start,
+                tokens,
+            });
         }
     }
     unreachable!("no segment is refused in {}", case.show())
@@ -548,6 +555,24 @@ fn lookup_many(file: &mut File, seed: u64) {
         for shape in 0..many::SHAPES {
             let places = many::shaped(&mut random, shape, count);
             let asked = many::some_around(&mut random, &places);
+            put_asks(file, &Asks::of(places, &asked));
+        }
+    }
+    file.group("many: sorted tables");
+    for count in (2..=9).chain([12, 15, 16, 17, 20, 31, 32, 33, 63, 64, 65, 68]) {
+        let runs = sorted::equal_runs(count, 2 + count % 9, count % 2);
+        for places in [sorted::in_order(0, count), sorted::in_order(3, count), runs] {
+            for asked in sorted::beside(&places).chunks(80) {
+                put_asks(file, &Asks::of(places.clone(), asked));
+            }
+        }
+    }
+    // Each line has its tokens together, and the last token is on the last line: the crate's lookup has no way to differ.
+    file.group("many: lines that fall");
+    for count in 4..=13 {
+        for i in 1..count - 1 {
+            let places = sorted::fallen(1 + i % 2, count, i);
+            let asked = many::around(&places[i - 1..=i]);
             put_asks(file, &Asks::of(places, &asked));
         }
     }

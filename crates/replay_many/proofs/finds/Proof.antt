@@ -4,14 +4,14 @@ use borrow.Author.Needs.{needs}
 use Rattle.replay_many.proofs.finds.Statement.{statement}
 use Rattle.replay_many.proofs.finds.Tie as tie
 
-slice-relend-prefix-lookup-many : tie.Need-slice-relend-prefix-lookup-many
-slice-relend-prefix-lookup-many c = search needs
+slice-relend-prefix-looked : tie.Need-slice-relend-prefix-looked
+slice-relend-prefix-looked c = search needs
 
-slice-aggregate-lookup-many : tie.Need-slice-aggregate-lookup-many
-slice-aggregate-lookup-many c = sym (length-take-le _ _ (search needs))
+slice-aggregate-looked : tie.Need-slice-aggregate-looked
+slice-aggregate-looked c = sym (length-take-le _ _ (search needs))
 
-lookup-many-requires : tie.Need-lookup-many-requires
-lookup-many-requires c κs = search needs
+looked-requires : tie.Need-looked-requires
+looked-requires c κs = search needs
 
 answers-requires : tie.Need-answers-requires
 answers-requires c κs = search needs
@@ -35,9 +35,9 @@ pub finds-spec : {M : Type 1} → statement M
 finds-spec =
     tie.close
     (tie.spec
-    slice-relend-prefix-lookup-many
-    slice-aggregate-lookup-many
-    lookup-many-requires
+    slice-relend-prefix-looked
+    slice-aggregate-looked
+    looked-requires
     answers-requires
     same-length
     returns

@@ -7,23 +7,23 @@ use Rattle.replay_many.proofs.list_agrees.Tie as tie
 mul-end : tie.Need-mul-end
 mul-end c = search needs
 
-slice-aggregate-finds-twice : tie.Need-slice-aggregate-finds-twice
-slice-aggregate-finds-twice c = sym (length-take-le _ _ (search needs))
+slice-aggregate-both-find : tie.Need-slice-aggregate-both-find
+slice-aggregate-both-find c = sym (length-take-le _ _ (search needs))
 
-mul-finds-twice : tie.Need-mul-finds-twice
-mul-finds-twice c = search needs
+mul-both-find : tie.Need-mul-both-find
+mul-both-find c = search needs
 
-sub-finds-twice : tie.Need-sub-finds-twice
-sub-finds-twice c = search needs
+sub-both-find : tie.Need-sub-both-find
+sub-both-find c = search needs
 
-part-finds-twice-start : tie.Need-part-finds-twice-start
-part-finds-twice-start c = search needs
+part-both-find-start : tie.Need-part-both-find-start
+part-both-find-start c = search needs
 
-part-finds-twice-end : tie.Need-part-finds-twice-end
-part-finds-twice-end c = search needs
+part-both-find-end : tie.Need-part-both-find-end
+part-both-find-end c = search needs
 
-finds-twice-requires : tie.Need-finds-twice-requires
-finds-twice-requires c κs = search needs
+both-find-requires : tie.Need-both-find-requires
+both-find-requires c κs = search needs
 
 returns : tie.Need-returns
 returns c = search needs
@@ -33,10 +33,10 @@ list-agrees-spec =
     tie.close
     (tie.spec
     mul-end
-    slice-aggregate-finds-twice
-    mul-finds-twice
-    sub-finds-twice
-    part-finds-twice-start
-    part-finds-twice-end
-    finds-twice-requires
+    slice-aggregate-both-find
+    mul-both-find
+    sub-both-find
+    part-both-find-start
+    part-both-find-end
+    both-find-requires
     returns)

@@ -10,10 +10,10 @@ use lib.Dec.{ltb}
 use lib.ListN.{length}
 use borrow.Author.Tests.{ltb-true, ltb-false}
 use Rattle.token.specs.Table.{places, tokenAt}
-use Rattle.order.specs.Order.{sorted, NeverFalls}
+use Rattle.order.specs.Order.{NeverFalls}
 use Rattle.order.proofs.Before.{UpTo, up-to, not-before}
 use Rattle.order.proofs.Falls.{sorted-never}
-use Rattle.lookup.specs.Lookup.{Fits, NotAfter, Best}
+use Rattle.lookup.specs.Lookup.{Fits, NotAfter}
 use Rattle.halving.specs.Law.{LastUpTo, Halves, HalvingLaw}
 
 never : {A : Type 0} → true ≡ false → A

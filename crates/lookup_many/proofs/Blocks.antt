@@ -1,23 +1,22 @@
 -- A block: how it is found, and what a position takes from it. Assumes nothing.
-use mathlib.Core.Path.{_≡_, refl, sym, _∙_, ap, subst}
-use mathlib.Core.Bool.{Bool, true, false}
+use mathlib.Core.Path.{_≡_, sym, _∙_, ap, subst}
+use mathlib.Core.Bool.{true}
 use mathlib.Core.Logic.{_⊎_, inl, inr}
 use mathlib.Core.List.{List}
-use mathlib.Core.Option.{Option, none, some}
-use Prim.Native.Nat.{ℕ, _+_, _*_, _<_, _≤_}
+use mathlib.Core.Option.{some}
+use Prim.Native.Nat.{ℕ, _+_, _<_, _≤_}
 use native.Mathlib.Omega.{arith}
 use native.Mathlib.Nat.{eq-or-lt-of-le}
-use lib.Dec.{eqb, leb}
 use lib.ListN.{length}
 use borrow.Author.Count.{below-more}
 use borrow.Author.Tests.{eq-eqb, le-leb}
-use Rattle.token.specs.Table.{places, badTable, tokenAt}
+use Rattle.token.specs.Table.{places, tokenAt}
 use Rattle.token.proofs.Whole.{few}
 use Rattle.order.specs.Keys.{keyOf, keyAt}
 use Rattle.lookup.specs.Lookup.{NotAfter, fits, bestOf}
 use Rattle.lookup.specs.Parts.{Between, indexOf}
 use Rattle.lookup.proofs.Best.{Among, among}
-use Rattle.lookup.proofs.Scan.{some-index, none-index, index-small, found-inside}
+use Rattle.lookup.proofs.Scan.{some-index, none-index, index-small}
 use Rattle.lookup.proofs.Part.{fits-says, passed, first-found, later-found, earlier-kept}
 use Rattle.lookup_many.specs.Blocks.{Spans}
 use Rattle.lookup_many.specs.declared.Block.{Block}

@@ -6,7 +6,7 @@ use mathlib.Core.Logic.{inl, inr}
 use mathlib.Core.List.{List}
 use Prim.Native.Nat.{ℕ, _+_, _-_, _≤_, _<_}
 use native.Mathlib.Omega.{arith}
-use lib.Dec.{eqb, ltb}
+use lib.Dec.{ltb}
 use lib.ListN.{length, drop, getD}
 use lib.Seq.{ext-getD, getD-drop}
 use borrow.Author.Tests.{eq-eqb, ne-eqb, ltb-true, ltb-false}

@@ -2,7 +2,6 @@
 -- token, and among equal tokens. Assumes nothing.
 use mathlib.Core.Path.{_≡_, refl}
 use mathlib.Core.List.{List, [], _∷_}
-use mathlib.Core.Option.{none, some}
 use Prim.Native.Nat.{ℕ}
 use Rattle.code.specs.declared.Code.{Code}
 use Rattle.token.specs.Table.{noId, token, tokenAt, flat}

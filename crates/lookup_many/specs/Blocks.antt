@@ -7,7 +7,7 @@ use Prim.Native.Nat.{ℕ, _≤_, _<_}
 use lib.ListN.{length}
 use Rattle.order.specs.Keys.{keyAt}
 use Rattle.lookup.specs.Lookup.{bestOf}
-use Rattle.lookup.specs.Parts.{Between, indexOf}
+use Rattle.lookup.specs.Parts.{indexOf}
 use Rattle.lookup_many.specs.declared.Block.{Block}
 use Rattle.lookup_many.specs.Many.{pairs, lineOf, colOf}
 use Rattle.lookup_many.specs.Places.{Filled}

@@ -1,18 +1,16 @@
 -- Where a table first falls: from neighbours to all tokens. Assumes nothing.
-use mathlib.Core.Path.{_≡_, refl, sym, _∙_, ap, subst}
+use mathlib.Core.Path.{_≡_, refl, sym, subst}
 use mathlib.Core.Bool.{Bool, true, false}
 use mathlib.Core.Logic.{_⊎_, inl, inr}
-use mathlib.Core.List.{List, [], _∷_}
+use mathlib.Core.List.{List}
 use mathlib.Core.Option.{Option, none, some}
 use Prim.Native.Nat.{ℕ, zero, suc, _+_, _-_, _<_, _≤_}
 use native.Mathlib.Omega.{arith}
 use native.Mathlib.Nat.{eq-or-lt-of-le, add-zero}
 use lib.ListN.{length}
-use borrow.Author.Count.{below-more}
 use Rattle.list.specs.Pick.{pick}
-use Rattle.token.specs.Table.{places, tokenAt, tokensFrom, tokensOf}
-use Rattle.token.specs.declared.Token.{Token}
-use Rattle.order.specs.Order.{falls, fallFrom, fallIn, firstFall, isNowhere, sorted, NeverFalls, FirstFall, FallSays, SortedSays}
+use Rattle.token.specs.Table.{places, tokenAt, tokensFrom}
+use Rattle.order.specs.Order.{falls, fallFrom, fallIn, firstFall, isNowhere, sorted, NeverFalls, FallSays, SortedSays}
 use Rattle.order.proofs.Before.{UpTo, up-to, not-before, up-to-up}
 
 module _ (table : List ℕ) where

@@ -11,9 +11,9 @@ use lib.ListN.{length, getD}
 use borrow.Author.Count.{below-more}
 use borrow.Author.Tests.{ltb-true, ltb-false}
 use Rattle.token.specs.Table.{width, places, tokenAt}
-use Rattle.order.specs.Order.{falls, firstFall, isNowhere, sorted, NeverFalls, FallSays}
-use Rattle.order.specs.Keys.{keyOf, keyAt, Rise, Rising, Decides}
-use Rattle.order.proofs.Before.{UpTo, up-to, not-before, key-up, up-key}
+use Rattle.order.specs.Order.{firstFall, isNowhere, sorted, NeverFalls, FallSays}
+use Rattle.order.specs.Keys.{keyAt, Rise, Rising, Decides}
+use Rattle.order.proofs.Before.{up-to, not-before, key-up, up-key}
 use Rattle.order.proofs.Falls.{says, sorted-never}
 
 never : {A : Type 0} → true ≡ false → A

@@ -1,7 +1,7 @@
 -- Some tables, computed: sorted ones, and where others first fall. Assumes nothing.
 use mathlib.Core.Path.{_≡_, refl}
-use mathlib.Core.Bool.{true, false}
-use mathlib.Core.List.{List, [], _∷_}
+use mathlib.Core.Bool.{false}
+use mathlib.Core.List.{[], _∷_}
 use mathlib.Core.Option.{none, some}
 use Prim.Native.Nat.{ℕ}
 use Rattle.token.specs.Table.{noId, token, tokenAt, tokensFrom, flat}

@@ -7,37 +7,25 @@ use Rattle.halving.proofs.Parts.{other-line, past-it, found}
 use borrow.Author.Needs.{needs}
 use Rattle.halving.proofs.best_of_few.Statement.{statement}
 use Rattle.halving.proofs.best_of_few.Tie as tie
-use Rattle.halving.proofs.best_of_few.Reads as reads
-use Rattle.halving.proofs.best_of_few.Lts as lts
-use Rattle.halving.proofs.last_of_few.Reads as last-of-few-reads
-use Rattle.order.proofs.key_of.Reads as key-of-reads
-use Rattle.token.proofs.token_at.Reads as token-at-reads
 
--- src/lib.rt:65:47
 key-of-requires : tie.Need-key-of-requires
 key-of-requires c κs = search needs
 
--- src/lib.rt:65:9
 last-of-few-requires : tie.Need-last-of-few-requires
 last-of-few-requires c κs = rw (c .key-of .ensures) (c .before .before .pre .0 .1, c .before .before .pre .1)
 
--- src/lib.rt:66:9
 token-at-requires : tie.Need-token-at-requires
 token-at-requires c κs = search needs
 
--- src/lib.rt:68:9
 returns : tie.Need-returns
 returns c = other-line _ (c .before .before .before .before .before .before .pre .0 .1 .0) (narrow _ (λ i. omega (arith, c .before .before .before .before .before .shared-slice-known .given i))) _ _ _ _ (omega (arith, c .before .before .before .before .before .before .fits .col)) (c .before .before .before .before .key-of .ensures) (c .before .before .before .last-of-few .ensures) _ (c .before .before .token-at .ensures) (c .if1 .taken)
 
--- src/lib.rt:71:9
 returns-2 : tie.Need-returns-2
 returns-2 c = past-it _ (c .before .before .before .before .before .before .before .before .pre .0 .1 .0) (narrow _ (λ i. omega (arith, c .before .before .before .before .before .before .before .shared-slice-known .given i))) _ _ _ _ (omega (arith, c .before .before .before .before .before .before .before .before .fits .col)) (c .before .before .before .before .before .before .key-of .ensures) (c .before .before .before .before .before .last-of-few .ensures) _ (c .before .before .before .before .token-at .ensures) (c .before .before .if1 .left) (c .if2 .taken)
 
--- src/lib.rt:73:5
 cast-result : tie.Need-cast-result
 cast-result c = omega (arith, c .before .before .before .before .before .last-of-few .ensures .ends, few (length (c .before .before .before .before .before .before .before .before .args .table .now)) (c .before .before .before .before .before .before .before .before .pre .0 .0))
 
--- src/lib.rt:61:1
 returns-3 : tie.Need-returns-3
 returns-3 c = found _ (c .before .before .before .before .before .before .before .before .pre .0 .1 .0) (narrow _ (λ i. omega (arith, c .before .before .before .before .before .before .before .shared-slice-known .given i))) _ _ _ _ (omega (arith, c .before .before .before .before .before .before .before .before .fits .col)) (c .before .before .before .before .before .before .key-of .ensures) (c .before .before .before .before .before .last-of-few .ensures) _ (c .before .before .before .before .token-at .ensures) (c .before .before .if1 .left) (c .if2 .left)
 

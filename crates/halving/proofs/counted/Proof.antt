@@ -1,23 +1,16 @@
 -- `halving::counted` meets its contract, by the laws of `Parts`. Assumes nothing.
-use mathlib.Core.Path.{ap, _∙_}
 use native.Mathlib.Omega.{arith}
 use Rattle.halving.proofs.Parts.{counted, not-counted}
 use borrow.Author.Needs.{needs}
 use Rattle.halving.proofs.counted.Statement.{statement}
 use Rattle.halving.proofs.counted.Tie as tie
-use Rattle.halving.proofs.counted.Reads as reads
-use Rattle.halving.proofs.counted.Lts as lts
-use Rattle.order.proofs.key_at.Reads as key-at-reads
 
--- src/lib.rt:21:8
 key-at-requires : tie.Need-key-at-requires
 key-at-requires c κs = search needs
 
--- src/lib.rt:22:9
 returns : tie.Need-returns
 returns c = counted _ _ (omega (arith, c .before .key-at .ensures, c .if1 .taken))
 
--- src/lib.rt:17:1
 returns-2 : tie.Need-returns-2
 returns-2 c = not-counted _ _ (omega (arith, c .before .key-at .ensures, c .if1 .left))
 

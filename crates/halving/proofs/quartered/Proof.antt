@@ -4,59 +4,43 @@ use Rattle.halving.proofs.Parts.{at-most, quarter}
 use borrow.Author.Needs.{needs}
 use Rattle.halving.proofs.quartered.Statement.{statement}
 use Rattle.halving.proofs.quartered.Tie as tie
-use Rattle.halving.proofs.quartered.Reads as reads
-use Rattle.halving.proofs.quartered.Lts as lts
-use Rattle.halving.proofs.counted.Reads as counted-reads
 
--- src/lib.rt:33:32
 add-counted : tie.Need-add-counted
 add-counted c = search needs
 
--- src/lib.rt:33:9
 counted-requires : tie.Need-counted-requires
 counted-requires c κs = search needs
 
--- src/lib.rt:34:40
 mul-counted : tie.Need-mul-counted
 mul-counted c = search needs
 
--- src/lib.rt:34:33
 add-counted-2 : tie.Need-add-counted-2
 add-counted-2 c = search needs
 
--- src/lib.rt:34:9
 counted-requires-2 : tie.Need-counted-requires-2
 counted-requires-2 c κs = search needs
 
--- src/lib.rt:35:39
 mul-counted-2 : tie.Need-mul-counted-2
 mul-counted-2 c = search needs
 
--- src/lib.rt:35:32
 add-counted-3 : tie.Need-add-counted-3
 add-counted-3 c = search needs
 
--- src/lib.rt:35:9
 counted-requires-3 : tie.Need-counted-requires-3
 counted-requires-3 c κs = search needs
 
--- src/lib.rt:36:20
 add-result : tie.Need-add-result
 add-result c = omega (arith, at-most _ _ _ (c .before .before .counted .ensures), at-most _ _ _ (c .before .counted2 .ensures), at-most _ _ _ (c .counted3 .ensures))
 
--- src/lib.rt:36:20
 add-result-2 : tie.Need-add-result-2
 add-result-2 c = omega (arith, at-most _ _ _ (c .before .before .counted .ensures), at-most _ _ _ (c .before .counted2 .ensures), at-most _ _ _ (c .counted3 .ensures))
 
--- src/lib.rt:36:12
 mul-result : tie.Need-mul-result
 mul-result c = omega (arith, (quarter _ (c .before .before .before .before .pre .0 .0) _ _ _ (c .before .before .before .before .pre .1) (c .before .before .before .before .pre .0 .1) _ _ _ (c .before .before .counted .ensures) (c .before .counted2 .ensures) (c .counted3 .ensures)) .ends, c .before .before .before .before .good)
 
--- src/lib.rt:36:5
 add-result-3 : tie.Need-add-result-3
 add-result-3 c = omega (arith, (quarter _ (c .before .before .before .before .pre .0 .0) _ _ _ (c .before .before .before .before .pre .1) (c .before .before .before .before .pre .0 .1) _ _ _ (c .before .before .counted .ensures) (c .before .counted2 .ensures) (c .counted3 .ensures)) .ends, c .before .before .before .before .good)
 
--- src/lib.rt:28:1
 returns : tie.Need-returns
 returns c = quarter _ (c .before .before .before .before .pre .0 .0) _ _ _ (c .before .before .before .before .pre .1) (c .before .before .before .before .pre .0 .1) _ _ _ (c .before .before .counted .ensures) (c .before .counted2 .ensures) (c .counted3 .ensures)
 

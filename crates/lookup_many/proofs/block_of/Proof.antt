@@ -5,9 +5,6 @@ use mathlib.Core.Logic.{⊎-elim}
 use Rattle.lookup_many.proofs.Blocks.{Spanned, first, inside, last-small, spanned, takes, leaves}
 use Rattle.lookup_many.proofs.block_of.Statement.{statement}
 use Rattle.lookup_many.proofs.block_of.Tie as tie
-use Rattle.lookup_many.proofs.block_of.Reads as reads
-use Rattle.lookup_many.proofs.block_of.Lts as lts
-use Rattle.order.proofs.key_at.Reads as key-at-reads
 
 abbrev Inv-loop : tie.InvT-loop
 Inv-loop table from to first least₀ most₀ last₀ i₀ least most last i = Spanned table from to least most last i
@@ -15,31 +12,24 @@ Inv-loop table from to first least₀ most₀ last₀ i₀ least most last i = S
 abbrev μ-loop : tie.MeasureT-loop
 μ-loop table from to first least₀ most₀ last₀ i₀ least most last i = to - i
 
--- src/lib.rt:45:9
 key-at-requires : tie.Need-key-at-requires Inv-loop μ-loop
 key-at-requires c κs = omega (arith, c .before .pre .0 .within, c .before .pre .1)
 
--- src/lib.rt:49:17
 add-i : tie.Need-add-i Inv-loop μ-loop
 add-i c = omega (arith, c .before .before .pre .1, c .before .before .fits .to)
 
--- src/lib.rt:50:5
 loop-holds : tie.Need-loop-holds Inv-loop μ-loop
 loop-holds c = first _ _ _ (c .before .before .pre .1) _ (c .key-at .ensures)
 
--- src/lib.rt:51:13
 key-at-requires-2 : tie.Need-key-at-requires-2 Inv-loop μ-loop
 key-at-requires-2 c κs = inside _ _ _ _ _ _ _ (c .before .loop .inv) (c .loop-test .taken) (c .before .before .before .before .pre .0)
 
--- src/lib.rt:59:9
 add-i-2 : tie.Need-add-i-2 Inv-loop μ-loop
 add-i-2 c = omega (arith, c .before .before .before .loop-test .taken, c .before .before .before .before .before .before .before .fits .to)
 
--- src/lib.rt:50:5
 loop-less : tie.Need-loop-less Inv-loop μ-loop
 loop-less c = omega arith
 
--- src/lib.rt:50:5
 loop-again : tie.Need-loop-again Inv-loop μ-loop
 loop-again c = ⊎-elim
     (λ v. ⊎-elim
@@ -52,11 +42,9 @@ loop-again c = ⊎-elim
     (c .if2 .came))
     (c .before .if1 .came)
 
--- src/lib.rt:64:15
 cast-latest : tie.Need-cast-latest Inv-loop μ-loop
 cast-latest c = omega (arith, last-small _ _ _ _ _ _ _ (c .before .loop .inv) (c .before .before .before .before .pre .0))
 
--- src/lib.rt:41:1
 returns : tie.Need-returns Inv-loop μ-loop
 returns c = spanned _ _ _ _ _ _ _ (c .before .loop .inv) (c .loop-test .left)
 

@@ -4,27 +4,19 @@ use Rattle.lookup_many.proofs.Tests.{bad, odd, no-room, done}
 use borrow.Author.Needs.{needs}
 use Rattle.lookup_many.proofs.code_for.Statement.{statement}
 use Rattle.lookup_many.proofs.code_for.Tie as tie
-use Rattle.lookup_many.proofs.code_for.Reads as reads
-use Rattle.lookup_many.proofs.code_for.Lts as lts
-use Rattle.token.proofs.bad_table.Reads as bad-table-reads
 
--- src/lib.rt:136:8
 bad-table-requires : tie.Need-bad-table-requires
 bad-table-requires c κs = search needs
 
--- src/lib.rt:137:9
 returns : tie.Need-returns
 returns c = bad _ _ _ (sym (c .before .bad-table .ensures) ∙ c .if1 .taken)
 
--- src/lib.rt:140:9
 returns-2 : tie.Need-returns-2
 returns-2 c = odd _ _ _ (sym (c .before .before .bad-table .ensures) ∙ c .before .if1 .left) (c .if2 .taken)
 
--- src/lib.rt:144:9
 returns-3 : tie.Need-returns-3
 returns-3 c = no-room _ _ _ (sym (c .before .before .before .bad-table .ensures) ∙ c .before .before .if1 .left) (c .before .if2 .left) (c .if3 .taken)
 
--- src/lib.rt:133:1
 returns-4 : tie.Need-returns-4
 returns-4 c = done _ _ _ (sym (c .before .before .before .bad-table .ensures) ∙ c .before .before .if1 .left) (c .before .if2 .left) (c .if3 .left)
 

@@ -10,11 +10,6 @@ use Rattle.token.proofs.Whole.{few}
 use Rattle.lookup_many.proofs.Pairs.{after, again, finish, block}
 use Rattle.lookup_many.proofs.look_all.Statement.{statement}
 use Rattle.lookup_many.proofs.look_all.Tie as tie
-use Rattle.lookup_many.proofs.look_all.Reads as reads
-use Rattle.lookup_many.proofs.look_all.Lts as lts
-use Rattle.lookup_many.proofs.look_block.Reads as look-block-reads
-use Rattle.lookup_many.proofs.none_yet.Reads as none-yet-reads
-use Rattle.token.proofs.places_in.Reads as places-in-reads
 
 abbrev Inv-loop : tie.InvT-loop
 Inv-loop table positions found₀ places i₀ found i = (i ≤ places) × Held table positions i found₀ found
@@ -22,43 +17,33 @@ Inv-loop table positions found₀ places i₀ found i = (i ≤ places) × Held t
 abbrev μ-loop : tie.MeasureT-loop
 μ-loop table positions found₀ places i₀ found i = places - i
 
--- src/lib.rt:155:5
 none-yet-requires : tie.Need-none-yet-requires Inv-loop μ-loop
 none-yet-requires c κs = c .before .before .before .before .pre .1
 
--- src/lib.rt:156:9
 places-in-requires : tie.Need-places-in-requires Inv-loop μ-loop
 places-in-requires c κs = tt
 
--- src/lib.rt:158:5
 loop-holds : tie.Need-loop-holds Inv-loop μ-loop
 loop-holds c = (omega arith, again _ _ _ _ (c .before .before .before .none-yet .ensures))
 
--- src/lib.rt:160:20
 sub-if1 : tie.Need-sub-if1 Inv-loop μ-loop
 sub-if1 c = omega (arith, c .loop-test .taken)
 
--- src/lib.rt:161:18
 add-to : tie.Need-add-to Inv-loop μ-loop
 add-to c = omega (arith, c .if1 .taken, c .before .loop-test .taken, c .before .before .before .places-in .ensures, few (length (c .before .before .before .before .before .before .before .before .before .before .before .args .table .now)) (c .before .before .before .before .before .before .before .before .before .before .before .pre .0))
 
--- src/lib.rt:163:9
 look-block-requires : tie.Need-look-block-requires Inv-loop μ-loop
 look-block-requires c κs = (block _ _ _ _ (c .before .before .before .before .before .before .before .before .before .before .before .before .pre .0) (c .before .before .before .before .places-in .ensures) (⊎-elim (λ w. (omega (arith, w .0 .taken, w .1), omega (arith, w .0 .taken, w .1))) (λ w. (omega (arith, w .1, c .before .before .loop-test .taken), omega (arith, w .1))) (c .before .if1 .came)), (omega (arith, c .before .before .before .loop .inv .1 .sized, c .before .before .before .before .before .before .before .none-yet .ensures .sized, c .before .before .before .before .before .before .before .before .before .before .before .before .pre .1), again _ _ _ _ (c .before .before .before .loop .inv .1)))
 
--- src/lib.rt:158:5
 loop-less : tie.Need-loop-less Inv-loop μ-loop
 loop-less c = ⊎-elim (λ w. omega (arith, w .0 .taken, w .1)) (λ w. omega (arith, w .1, c .before .before .before .before .before .loop-test .taken)) (c .before .before .before .before .if1 .came)
 
--- src/lib.rt:158:5
 loop-again : tie.Need-loop-again Inv-loop μ-loop
 loop-again c = (⊎-elim (λ w. omega (arith, w .0 .taken, w .1)) (λ w. omega (arith, w .1, c .before .before .before .before .before .loop-test .taken)) (c .before .before .before .before .if1 .came), after _ _ _ _ _ _ (c .before .before .before .before .before .before .loop .inv .1) (c .before .before .look-block .ensures))
 
--- src/lib.rt:151:1
 same-length : tie.Need-same-length Inv-loop μ-loop
 same-length c = c .before .loop .inv .1 .sized ∙ c .before .before .before .before .before .none-yet .ensures .sized
 
--- src/lib.rt:151:1
 returns : tie.Need-returns Inv-loop μ-loop
 returns c = finish _ (c .before .before .before .before .before .before .before .before .before .before .args .positions .now) _ (c .before .loop .i) (places (length (c .before .before .before .before .before .before .before .before .before .before .args .table .now))) _ _ (after _ _ _ _ _ _ (c .before .before .before .before .before .none-yet .ensures) (c .before .loop .inv .1)) (omega (arith, c .before .loop .inv .0, c .loop-test .left, c .before .before .places-in .ensures))
 

@@ -1,14 +1,9 @@
 -- `lookup_many::look_block` meets its contract, by the laws of `Pairs`. Assumes nothing.
 use native.Mathlib.Omega.{arith}
 use Prim.Native.Nat.{_-_}
-use mathlib.Core.Path.{refl}
 use Rattle.lookup_many.proofs.Pairs.{Partly, Finds, begin, inside, next, filled}
 use Rattle.lookup_many.proofs.look_block.Statement.{statement}
 use Rattle.lookup_many.proofs.look_block.Tie as tie
-use Rattle.lookup_many.proofs.look_block.Reads as reads
-use Rattle.lookup_many.proofs.look_block.Lts as lts
-use Rattle.lookup_many.proofs.block_of.Reads as block-of-reads
-use Rattle.lookup_many.proofs.past_block.Reads as past-block-reads
 
 abbrev Inv-loop : tie.InvT-loop
 Inv-loop table from to positions found₀ b count k₀ found k = Partly (Finds table positions to) (Finds table positions from) count k found₀ found
@@ -16,79 +11,60 @@ Inv-loop table from to positions found₀ b count k₀ found k = Partly (Finds t
 abbrev μ-loop : tie.MeasureT-loop
 μ-loop table from to positions found₀ b count k₀ found k = count - k
 
--- src/lib.rt:104:9
 block-of-requires : tie.Need-block-of-requires Inv-loop μ-loop
 block-of-requires c κs = c .before .before .before .pre .0
 
--- src/lib.rt:107:5
 loop-holds : tie.Need-loop-holds Inv-loop μ-loop
 loop-holds c = begin _ _ _ _ (c .before .before .before .before .pre .1 .0) (c .before .before .before .before .pre .1 .1 .each)
 
--- src/lib.rt:108:30
 mul-line : tie.Need-mul-line Inv-loop μ-loop
 mul-line c = omega (arith, c .loop-test .taken, c .before .before .before .before .before .before .good)
 
--- src/lib.rt:108:20
 mul-line-2 : tie.Need-mul-line-2 Inv-loop μ-loop
 mul-line-2 c = omega (arith, c .loop-test .taken, c .before .before .before .before .before .before .good)
 
--- src/lib.rt:108:20
 shared-slice-read-line : tie.Need-shared-slice-read-line Inv-loop μ-loop
 shared-slice-read-line c = omega (arith, c .before .loop-test .taken)
 
--- src/lib.rt:109:29
 mul-col : tie.Need-mul-col Inv-loop μ-loop
 mul-col c = omega (arith, c .before .loop-test .taken, c .before .before .before .before .before .before .before .good)
 
--- src/lib.rt:109:29
 add-col : tie.Need-add-col Inv-loop μ-loop
 add-col c = omega (arith, c .before .loop-test .taken, c .before .before .before .before .before .before .before .good)
 
--- src/lib.rt:109:19
 mul-col-2 : tie.Need-mul-col-2 Inv-loop μ-loop
 mul-col-2 c = omega (arith, c .before .loop-test .taken, c .before .before .before .before .before .before .before .good)
 
--- src/lib.rt:109:19
 shared-slice-read-col : tie.Need-shared-slice-read-col Inv-loop μ-loop
 shared-slice-read-col c = omega (arith, c .before .before .loop-test .taken)
 
--- src/lib.rt:110:19
 mul-was : tie.Need-mul-was Inv-loop μ-loop
 mul-was c = omega (arith, c .before .before .loop-test .taken, c .before .before .before .before .before .before .before .before .good)
 
--- src/lib.rt:110:19
 slice-read-was : tie.Need-slice-read-was Inv-loop μ-loop
 slice-read-was c = inside _ _ _ _ _ _ (c .before .before .before .before .loop .inv) (c .before .before .before .loop-test .taken)
 
--- src/lib.rt:111:20
 past-block-requires : tie.Need-past-block-requires Inv-loop μ-loop
 past-block-requires c κs = (c .before .before .before .before .before .before .before .before .before .pre .0 .0, (c .before .before .before .before .before .block-of .ensures, c .before .before .before .before .loop .inv .left _ (omega arith) (c .before .before .before .loop-test .taken)))
 
--- src/lib.rt:111:9
 mul-found : tie.Need-mul-found Inv-loop μ-loop
 mul-found c = omega (arith, c .before .before .before .before .loop-test .taken, c .before .before .before .before .before .before .before .before .before .before .good)
 
--- src/lib.rt:111:9
 slice-write-found : tie.Need-slice-write-found Inv-loop μ-loop
 slice-write-found c = inside _ _ _ _ _ _ (c .before .before .before .before .before .loop .inv) (c .before .before .before .before .loop-test .taken)
 
--- src/lib.rt:112:9
 add-k : tie.Need-add-k Inv-loop μ-loop
 add-k c = omega (arith, c .before .before .before .before .loop-test .taken, c .before .before .before .before .before .before .before .before .before .before .good)
 
--- src/lib.rt:107:5
 loop-less : tie.Need-loop-less Inv-loop μ-loop
 loop-less c = omega (arith, c .before .before .before .before .loop-test .taken)
 
--- src/lib.rt:107:5
 loop-again : tie.Need-loop-again Inv-loop μ-loop
 loop-again c = next _ _ _ _ _ _ (c .before .before .before .before .before .loop .inv) (c .before .before .before .before .loop-test .taken) _ (c .past-block .ensures)
 
--- src/lib.rt:100:1
 same-length : tie.Need-same-length Inv-loop μ-loop
 same-length c = c .before .loop .inv .sized
 
--- src/lib.rt:100:1
 returns : tie.Need-returns Inv-loop μ-loop
 returns c = filled _ _ _ _ _ _ (c .before .loop .inv) (c .loop-test .left)
 

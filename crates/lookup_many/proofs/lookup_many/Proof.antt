@@ -4,33 +4,22 @@ use Rattle.lookup_many.proofs.Whole.{refused, ready, answered}
 use borrow.Author.Needs.{needs}
 use Rattle.lookup_many.proofs.lookup_many.Statement.{statement}
 use Rattle.lookup_many.proofs.lookup_many.Tie as tie
-use Rattle.lookup_many.proofs.lookup_many.Reads as reads
-use Rattle.lookup_many.proofs.lookup_many.Lts as lts
-use Rattle.code.proofs.code_of.Reads as code-of-reads
-use Rattle.lookup_many.proofs.code_for.Reads as code-for-reads
-use Rattle.lookup_many.proofs.look_all.Reads as look-all-reads
 
--- src/lib.rt:172:9
 code-for-requires : tie.Need-code-for-requires
 code-for-requires c κs = search needs
 
--- src/lib.rt:173:8
 code-of-requires : tie.Need-code-of-requires
 code-of-requires c κs = search needs
 
--- src/lib.rt:174:9
 returns : tie.Need-returns
 returns c = refused _ _ _ _ (c .before .before .code-for .ensures) (λ q. c .if1 .taken (c .before .code-of .ensures ∙ q))
 
--- src/lib.rt:176:5
 look-all-requires : tie.Need-look-all-requires
 look-all-requires c κs = ready _ _ (c .before .before .before .before .before .before .before .args .found .now) _ (c .before .before .before .code-for .ensures) (sym (c .before .before .code-of .ensures) ∙ c .before .if1 .left)
 
--- src/lib.rt:169:1
 same-length : tie.Need-same-length
 same-length c = search needs
 
--- src/lib.rt:169:1
 returns-2 : tie.Need-returns-2
 returns-2 c = answered _ _ _ _ (c .before .before .before .before .before .before .code-for .ensures) (sym (c .before .before .before .before .before .code-of .ensures) ∙ c .before .before .before .before .if1 .left) _ (c .before .before .look-all .ensures)
 

@@ -7,8 +7,6 @@ use Rattle.lookup.proofs.Scan.{from-nothing}
 use Rattle.lookup_many.proofs.Pairs.{Partly, Finds, begin, inside, next, filled}
 use Rattle.lookup_many.proofs.none_yet.Statement.{statement}
 use Rattle.lookup_many.proofs.none_yet.Tie as tie
-use Rattle.lookup_many.proofs.none_yet.Reads as reads
-use Rattle.lookup_many.proofs.none_yet.Lts as lts
 
 abbrev Inv-loop : tie.InvT-loop
 Inv-loop table positions found₀ places k₀ found k = Partly (Finds table positions 0) (λ j n. n ≡ getD found₀ j 0) places k found₀ found
@@ -16,35 +14,27 @@ Inv-loop table positions found₀ places k₀ found k = Partly (Finds table posi
 abbrev μ-loop : tie.MeasureT-loop
 μ-loop table positions found₀ places k₀ found k = places - k
 
--- src/lib.rt:126:5
 loop-holds : tie.Need-loop-holds Inv-loop μ-loop
 loop-holds c = begin _ _ _ _ (c .pre) (λ j l. refl)
 
--- src/lib.rt:127:9
 mul-found : tie.Need-mul-found Inv-loop μ-loop
 mul-found c = omega (arith, inside _ _ _ _ _ _ (c .before .loop .inv) (c .loop-test .taken), c .before .loop .inv .sized, c .before .before .good)
 
--- src/lib.rt:127:9
 slice-write-found : tie.Need-slice-write-found Inv-loop μ-loop
 slice-write-found c = inside _ _ _ _ _ _ (c .before .loop .inv) (c .loop-test .taken)
 
--- src/lib.rt:128:9
 add-k : tie.Need-add-k Inv-loop μ-loop
 add-k c = omega arith
 
--- src/lib.rt:126:5
 loop-less : tie.Need-loop-less Inv-loop μ-loop
 loop-less c = omega arith
 
--- src/lib.rt:126:5
 loop-again : tie.Need-loop-again Inv-loop μ-loop
 loop-again c = next _ _ _ _ _ _ (c .before .loop .inv) (c .loop-test .taken) _ (from-nothing _ _ _)
 
--- src/lib.rt:120:1
 same-length : tie.Need-same-length Inv-loop μ-loop
 same-length c = c .before .loop .inv .sized
 
--- src/lib.rt:120:1
 returns : tie.Need-returns Inv-loop μ-loop
 returns c = filled _ _ _ _ _ _ (c .before .loop .inv) (c .loop-test .left)
 

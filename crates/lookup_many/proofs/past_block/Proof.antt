@@ -6,49 +6,34 @@ use Rattle.lookup_many.proofs.Blocks.{all-after, all-before, found-firs
 use borrow.Author.Needs.{needs}
 use Rattle.lookup_many.proofs.past_block.Statement.{statement}
 use Rattle.lookup_many.proofs.past_block.Tie as tie
-use Rattle.lookup_many.proofs.past_block.Reads as reads
-use Rattle.lookup_many.proofs.past_block.Lts as lts
-use Rattle.lookup.proofs.best_in.Reads as best-in-reads
-use Rattle.order.proofs.key_at.Reads as key-at-reads
-use Rattle.order.proofs.key_of.Reads as key-of-reads
 
--- src/lib.rt:82:9
 key-of-requires : tie.Need-key-of-requires
 key-of-requires c κs = search needs
 
--- src/lib.rt:84:9
 returns : tie.Need-returns
 returns c = all-after _ _ _ _ _ _ (c .before .before .before .before .pre .0) (c .before .before .before .before .pre .1 .0) _ (c .before .before .before .before .pre .1 .1) (omega (arith, c .before .before .key-of .ensures, c .if1 .taken))
 
--- src/lib.rt:86:17
 key-of-requires-2 : tie.Need-key-of-requires-2
 key-of-requires-2 c κs = search needs
 
--- src/lib.rt:87:9
 returns-2 : tie.Need-returns-2
 returns-2 c = all-before _ _ _ _ _ _ (c .before .before .before .before .before .before .before .pre .0) (c .before .before .before .before .before .before .before .pre .1 .0) _ (c .before .before .before .before .before .before .before .pre .1 .1) (omega (arith, c .before .before .key-of2 .ensures, c .if2 .taken))
 
--- src/lib.rt:90:9
 best-in-requires : tie.Need-best-in-requires
 best-in-requires c κs = search needs
 
--- src/lib.rt:90:9
 returns-3 : tie.Need-returns-3
 returns-3 c = search needs
 
--- src/lib.rt:94:9
 returns-4 : tie.Need-returns-4
 returns-4 c = found-first _ _ _ _ _ _ (c .before .before .before .before .before .before .before .before .before .before .pre .0) (c .before .before .before .before .before .before .before .before .before .before .pre .1 .0) _ (c .before .before .before .before .before .before .before .before .before .before .pre .1 .1) (omega (arith, c .before .before .before .before .before .key-of2 .ensures, c .before .before .before .if2 .left)) (omega (arith, c .before .before .before .before .before .before .before .before .key-of .ensures, c .before .if3 .left)) (omega (arith, c .before .before .before .before .before .before .before .before .before .before .fits .col)) (narrow _ (λ i. omega (arith, c .before .before .before .before .before .before .before .before .before .shared-slice-known .given i))) (c .if4 .taken)
 
--- src/lib.rt:96:17
 key-at-requires : tie.Need-key-at-requires
 key-at-requires c κs = found-inside _ _ _ _ _ _ (c .before .before .before .before .before .before .before .before .before .before .pre .0) (c .before .before .before .before .before .before .before .before .before .before .pre .1 .1) (c .if4 .left)
 
--- src/lib.rt:97:9
 returns-5 : tie.Need-returns-5
 returns-5 c = keeps-earlier _ _ _ _ _ _ (c .before .before .before .before .before .before .before .before .before .before .before .before .before .pre .0) (c .before .before .before .before .before .before .before .before .before .before .before .before .before .pre .1 .0) _ (c .before .before .before .before .before .before .before .before .before .before .before .before .before .pre .1 .1) (omega (arith, c .before .before .before .before .before .before .before .before .key-of2 .ensures, c .before .before .before .before .before .before .if2 .left)) (omega (arith, c .before .before .before .before .before .before .before .before .before .before .before .key-of .ensures, c .before .before .before .before .if3 .left)) (omega (arith, c .before .before .before .before .before .before .before .before .before .before .before .before .before .fits .col)) (narrow _ (λ i. omega (arith, c .before .before .before .before .before .before .before .before .before .before .before .before .shared-slice-known .given i))) (c .before .before .before .if4 .left) (omega (arith, c .before .before .key-at .ensures, c .if5 .taken))
 
--- src/lib.rt:70:1
 returns-6 : tie.Need-returns-6
 returns-6 c = takes-later _ _ _ _ _ _ (c .before .before .before .before .before .before .before .before .before .before .before .before .before .pre .0) (c .before .before .before .before .before .before .before .before .before .before .before .before .before .pre .1 .0) _ (c .before .before .before .before .before .before .before .before .before .before .before .before .before .pre .1 .1) (omega (arith, c .before .before .before .before .before .before .before .before .key-of2 .ensures, c .before .before .before .before .before .before .if2 .left)) (omega (arith, c .before .before .before .before .before .before .before .before .before .before .before .key-of .ensures, c .before .before .before .before .if3 .left)) (omega (arith, c .before .before .before .before .before .before .before .before .before .before .before .before .before .fits .col)) (narrow _ (λ i. omega (arith, c .before .before .before .before .before .before .before .before .before .before .before .before .shared-slice-known .given i))) (c .before .before .before .if4 .left) (omega (arith, c .before .before .key-at .ensures, c .if5 .left))
 

@@ -9,8 +9,6 @@ use Rattle.lookup_quick.specs.Each.{Leads}
 use Rattle.lookup_quick.proofs.Steps.{at-first}
 use Rattle.lookup_quick.proofs.anywhere.Statement.{statement}
 use Rattle.lookup_quick.proofs.anywhere.Tie as tie
-use Rattle.lookup_quick.proofs.anywhere.Reads as reads
-use Rattle.lookup_quick.proofs.anywhere.Lts as lts
 
 abbrev Inv-loop : tie.InvT-loop
 Inv-loop table positions found₀ count k₀ found k = Partly (Leads table positions (places (length table))) (λ j n. n ≡ getD found₀ j 0) count k found₀ found
@@ -18,35 +16,27 @@ Inv-loop table positions found₀ count k₀ found k = Partly (Leads table posit
 abbrev μ-loop : tie.MeasureT-loop
 μ-loop table positions found₀ count k₀ found k = count - k
 
--- src/lib.rt:20:5
 loop-holds : tie.Need-loop-holds Inv-loop μ-loop
 loop-holds c = begin _ _ _ _ (c .pre .1) (λ j l. refl)
 
--- src/lib.rt:21:9
 mul-found : tie.Need-mul-found Inv-loop μ-loop
 mul-found c = omega (arith, inside _ _ _ _ _ _ (c .before .loop .inv) (c .loop-test .taken), c .before .loop .inv .sized, c .before .before .good)
 
--- src/lib.rt:21:9
 slice-write-found : tie.Need-slice-write-found Inv-loop μ-loop
 slice-write-found c = inside _ _ _ _ _ _ (c .before .loop .inv) (c .loop-test .taken)
 
--- src/lib.rt:22:9
 add-k : tie.Need-add-k Inv-loop μ-loop
 add-k c = omega (arith, c .loop-test .taken, c .before .before .good)
 
--- src/lib.rt:20:5
 loop-less : tie.Need-loop-less Inv-loop μ-loop
 loop-less c = omega (arith, c .loop-test .taken)
 
--- src/lib.rt:20:5
 loop-again : tie.Need-loop-again Inv-loop μ-loop
 loop-again c = next _ _ _ _ _ _ (c .before .loop .inv) (c .loop-test .taken) _ (at-first _ _ (c .before .before .pre .0))
 
--- src/lib.rt:14:1
 same-length : tie.Need-same-length Inv-loop μ-loop
 same-length c = c .before .loop .inv .sized
 
--- src/lib.rt:14:1
 returns : tie.Need-returns Inv-loop μ-loop
 returns c = filled _ _ _ _ _ _ (c .before .loop .inv) (c .loop-test .left)
 

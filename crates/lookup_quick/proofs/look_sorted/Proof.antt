@@ -9,11 +9,6 @@ use Rattle.lookup_quick.specs.Each.{Each}
 use Rattle.lookup_quick.proofs.Steps.{so-many}
 use Rattle.lookup_quick.proofs.look_sorted.Statement.{statement}
 use Rattle.lookup_quick.proofs.look_sorted.Tie as tie
-use Rattle.lookup_quick.proofs.look_sorted.Reads as reads
-use Rattle.lookup_quick.proofs.look_sorted.Lts as lts
-use Rattle.lookup_quick.proofs.anywhere.Reads as anywhere-reads
-use Rattle.lookup_quick.proofs.find_each.Reads as find-each-reads
-use Rattle.lookup_quick.proofs.quarter_each.Reads as quarter-each-reads
 
 abbrev Inv-loop : tie.InvT-loop
 Inv-loop table tokens positions found₀ size₀ found size = (size ≤ tokens) × Each table positions size found₀ found
@@ -21,43 +16,33 @@ Inv-loop table tokens positions found₀ size₀ found size = (size ≤ tokens) 
 abbrev μ-loop : tie.MeasureT-loop
 μ-loop table tokens positions found₀ size₀ found size = size
 
--- src/lib.rt:62:5
 anywhere-requires : tie.Need-anywhere-requires Inv-loop μ-loop
 anywhere-requires c κs = (omega (arith, c .before .before .before .before .pre .0 .1 .1 .0, c .before .before .before .before .pre .0 .1 .1 .1), c .before .before .before .before .pre .1)
 
--- src/lib.rt:64:5
 loop-holds : tie.Need-loop-holds Inv-loop μ-loop
 loop-holds c = (omega arith, so-many _ (c .before .before .before .before .before .before .before .args .positions .now) _ (places (length (c .before .before .before .before .before .before .before .args .table .now))) _ _ _ (again _ _ _ _ (c .before .before .anywhere .ensures)) (sym (c .before .before .before .before .before .before .before .pre .0 .1 .1 .0)))
 
--- src/lib.rt:65:9
 quarter-each-requires : tie.Need-quarter-each-requires Inv-loop μ-loop
 quarter-each-requires c κs = ((c .before .before .before .before .before .before .before .before .before .before .pre .0 .0, (c .before .before .before .before .before .before .before .before .before .before .pre .0 .1 .0, c .before .loop-test .taken)), (omega (arith, c .before .before .loop .inv .1 .sized, c .before .before .before .before .before .anywhere .ensures .sized, c .before .before .before .before .before .before .before .before .before .before .pre .1), again _ _ _ _ (c .before .before .loop .inv .1)))
 
--- src/lib.rt:66:17
 mul-size : tie.Need-mul-size Inv-loop μ-loop
 mul-size c = omega (arith, c .before .before .before .before .before .loop .inv .0, c .before .before .before .before .before .before .before .before .before .before .before .before .before .fits .tokens)
 
--- src/lib.rt:66:9
 sub-size : tie.Need-sub-size Inv-loop μ-loop
 sub-size c = omega (arith, c .before .before .before .before .loop-test .taken)
 
--- src/lib.rt:64:5
 loop-less : tie.Need-loop-less Inv-loop μ-loop
 loop-less c = omega (arith, c .before .before .before .before .loop-test .taken)
 
--- src/lib.rt:64:5
 loop-again : tie.Need-loop-again Inv-loop μ-loop
 loop-again c = (omega (arith, c .before .before .before .before .before .loop .inv .0), after _ _ _ _ _ _ (c .before .before .before .before .before .loop .inv .1) (c .before .before .quarter-each .ensures))
 
--- src/lib.rt:68:5
 find-each-requires : tie.Need-find-each-requires Inv-loop μ-loop
 find-each-requires c κs = ((c .before .before .before .before .before .before .before .before .before .before .pre .0 .0, (c .before .before .before .before .before .before .before .before .before .before .pre .0 .1 .0, omega (arith, c .before .loop-test .left))), (omega (arith, c .before .before .loop .inv .1 .sized, c .before .before .before .before .before .anywhere .ensures .sized, c .before .before .before .before .before .before .before .before .before .before .pre .1), again _ _ _ _ (c .before .before .loop .inv .1)))
 
--- src/lib.rt:58:1
 same-length : tie.Need-same-length Inv-loop μ-loop
 same-length c = c .before .before .find-each .ensures .sized ∙ c .before .before .before .before .before .loop .inv .1 .sized ∙ c .before .before .before .before .before .before .before .before .anywhere .ensures .sized
 
--- src/lib.rt:58:1
 returns : tie.Need-returns Inv-loop μ-loop
 returns c = after _ _ _ _ _ _ (c .before .before .before .before .before .before .before .before .anywhere .ensures) (after _ _ _ _ _ _ (c .before .before .before .before .before .loop .inv .1) (c .before .before .find-each .ensures))
 

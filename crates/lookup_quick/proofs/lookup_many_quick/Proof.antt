@@ -6,56 +6,37 @@ use Rattle.lookup_many.proofs.Whole.{refused, ready, answered}
 use borrow.Author.Needs.{needs}
 use Rattle.lookup_quick.proofs.lookup_many_quick.Statement.{statement}
 use Rattle.lookup_quick.proofs.lookup_many_quick.Tie as tie
-use Rattle.lookup_quick.proofs.lookup_many_quick.Reads as reads
-use Rattle.lookup_quick.proofs.lookup_many_quick.Lts as lts
-use Rattle.code.proofs.code_of.Reads as code-of-reads
-use Rattle.lookup_many.proofs.code_for.Reads as code-for-reads
-use Rattle.lookup_many.proofs.look_all.Reads as look-all-reads
-use Rattle.lookup_quick.proofs.look_sorted.Reads as look-sorted-reads
-use Rattle.order.proofs.is_sorted.Reads as is-sorted-reads
-use Rattle.token.proofs.places_in.Reads as places-in-reads
 
--- src/lib.rt:75:9
 code-for-requires : tie.Need-code-for-requires
 code-for-requires c κs = search needs
 
--- src/lib.rt:76:8
 code-of-requires : tie.Need-code-of-requires
 code-of-requires c κs = search needs
 
--- src/lib.rt:77:9
 returns : tie.Need-returns
 returns c = refused _ _ _ _ (c .before .before .code-for .ensures) (λ q. c .if1 .taken (c .before .code-of .ensures ∙ q))
 
--- src/lib.rt:79:9
 places-in-requires : tie.Need-places-in-requires
 places-in-requires c κs = search needs
 
--- src/lib.rt:81:12
 is-sorted-requires : tie.Need-is-sorted-requires
 is-sorted-requires c κs = search needs
 
--- src/lib.rt:82:13
 look-sorted-requires : tie.Need-look-sorted-requires
 look-sorted-requires c κs = (((ready _ _ (c .before .before .before .before .before .before .before .before .before .before .before .args .found .now) _ (c .before .before .before .before .before .before .before .code-for .ensures) (sym (c .before .before .before .before .before .before .code-of .ensures) ∙ c .before .before .before .before .before .if1 .left)) .0, (rising _ (narrow _ (λ i. omega (arith, c .before .before .before .before .before .before .before .before .before .before .shared-slice-known .given i))) (sym (c .before .before .is-sorted .ensures) ∙ c .before .if3 .taken), (c .before .before .before .before .places-in .ensures, omega (arith, c .before .before .before .if2 .taken)))), (ready _ _ (c .before .before .before .before .before .before .before .before .before .before .before .args .found .now) _ (c .before .before .before .before .before .before .before .code-for .ensures) (sym (c .before .before .before .before .before .before .code-of .ensures) ∙ c .before .before .before .before .before .if1 .left)) .1)
 
--- src/lib.rt:83:13
 same-length : tie.Need-same-length
 same-length c = search needs
 
--- src/lib.rt:83:13
 returns-2 : tie.Need-returns-2
 returns-2 c = answered _ _ _ _ (c .before .before .before .before .before .before .before .before .before .before .code-for .ensures) (sym (c .before .before .before .before .before .before .before .before .before .code-of .ensures) ∙ c .before .before .before .before .before .before .before .before .if1 .left) _ (c .before .before .look-sorted .ensures)
 
--- src/lib.rt:86:5
 look-all-requires : tie.Need-look-all-requires
 look-all-requires c κs = ready _ _ (c .before .before .before .before .before .before .before .before .before .args .found .now) _ (c .before .before .before .before .before .code-for .ensures) (sym (c .before .before .before .before .code-of .ensures) ∙ c .before .before .before .if1 .left)
 
--- src/lib.rt:72:1
 same-length-2 : tie.Need-same-length-2
 same-length-2 c = search needs
 
--- src/lib.rt:72:1
 returns-3 : tie.Need-returns-3
 returns-3 c = answered _ _ _ _ (c .before .before .before .before .before .before .before .before .code-for .ensures) (sym (c .before .before .before .before .before .before .before .code-of .ensures) ∙ c .before .before .before .before .before .before .if1 .left) _ (c .before .before .look-all .ensures)
 

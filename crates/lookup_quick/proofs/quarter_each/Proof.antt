@@ -7,10 +7,6 @@ use Rattle.lookup_many.proofs.Pairs.{Partly, begin, inside, next, filled}
 use Rattle.lookup_quick.specs.Each.{Leads}
 use Rattle.lookup_quick.proofs.quarter_each.Statement.{statement}
 use Rattle.lookup_quick.proofs.quarter_each.Tie as tie
-use Rattle.lookup_quick.proofs.quarter_each.Reads as reads
-use Rattle.lookup_quick.proofs.quarter_each.Lts as lts
-use Rattle.halving.proofs.quartered.Reads as quartered-reads
-use Rattle.order.proofs.key_of.Reads as key-of-reads
 
 abbrev Inv-loop : tie.InvT-loop
 Inv-loop table size positions found₀ count k₀ found k = Partly (Leads table positions (size - 3 * (size / 4))) (Leads table positions size) count k found₀ found
@@ -18,87 +14,66 @@ Inv-loop table size positions found₀ count k₀ found k = Partly (Leads table 
 abbrev μ-loop : tie.MeasureT-loop
 μ-loop table size positions found₀ count k₀ found k = count - k
 
--- src/lib.rt:34:5
 loop-holds : tie.Need-loop-holds Inv-loop μ-loop
 loop-holds c = begin _ _ _ _ (c .before .before .before .pre .1 .0) (c .before .before .before .pre .1 .1 .each)
 
--- src/lib.rt:35:30
 mul-line : tie.Need-mul-line Inv-loop μ-loop
 mul-line c = omega (arith, c .loop-test .taken, c .before .before .before .before .before .good)
 
--- src/lib.rt:35:20
 mul-line-2 : tie.Need-mul-line-2 Inv-loop μ-loop
 mul-line-2 c = omega (arith, c .loop-test .taken, c .before .before .before .before .before .good)
 
--- src/lib.rt:35:20
 shared-slice-read-line : tie.Need-shared-slice-read-line Inv-loop μ-loop
 shared-slice-read-line c = omega (arith, c .before .loop-test .taken, c .before .before .before .before .before .before .good)
 
--- src/lib.rt:36:29
 mul-col : tie.Need-mul-col Inv-loop μ-loop
 mul-col c = omega (arith, c .before .loop-test .taken, c .before .before .before .before .before .before .good)
 
--- src/lib.rt:36:29
 add-col : tie.Need-add-col Inv-loop μ-loop
 add-col c = omega (arith, c .before .loop-test .taken, c .before .before .before .before .before .before .good)
 
--- src/lib.rt:36:19
 mul-col-2 : tie.Need-mul-col-2 Inv-loop μ-loop
 mul-col-2 c = omega (arith, c .before .loop-test .taken, c .before .before .before .before .before .before .good)
 
--- src/lib.rt:36:19
 shared-slice-read-col : tie.Need-shared-slice-read-col Inv-loop μ-loop
 shared-slice-read-col c = omega (arith, c .before .before .loop-test .taken, c .before .before .before .before .before .before .before .good)
 
--- src/lib.rt:37:13
 key-of-requires : tie.Need-key-of-requires Inv-loop μ-loop
 key-of-requires c κs = tt
 
--- src/lib.rt:38:46
 mul-quartered : tie.Need-mul-quartered Inv-loop μ-loop
 mul-quartered c = omega (arith, c .before .before .before .loop-test .taken, c .before .before .before .before .before .before .before .before .good)
 
--- src/lib.rt:38:46
 slice-read-quartered : tie.Need-slice-read-quartered Inv-loop μ-loop
 slice-read-quartered c = inside _ _ _ _ _ _ (c .before .before .before .before .before .loop .inv) (c .before .before .before .before .loop-test .taken)
 
--- src/lib.rt:38:46
 cast-quartered : tie.Need-cast-quartered Inv-loop μ-loop
 cast-quartered c = omega (arith, c .slice-known2 .given (c .before .before .before .before .before .loop .k))
 
--- src/lib.rt:38:13
 quartered-requires : tie.Need-quartered-requires Inv-loop μ-loop
 quartered-requires c κs = (c .before .before .before .before .before .before .before .before .before .pre .0 .1, rw (c .before .key-of .ensures) (c .before .before .before .before .before .loop .inv .left _ (omega arith) (c .before .before .before .before .loop-test .taken)))
 
--- src/lib.rt:39:20
 cast-found : tie.Need-cast-found Inv-loop μ-loop
 cast-found c = omega (arith, c .quartered .ensures .ends, c .quartered .ensures .some, few (length (c .before .before .before .before .before .before .before .before .before .before .args .table .now)) (c .before .before .before .before .before .before .before .before .before .before .pre .0 .0))
 
--- src/lib.rt:39:9
 mul-found : tie.Need-mul-found Inv-loop μ-loop
 mul-found c = omega (arith, c .before .before .before .before .before .loop-test .taken, c .before .before .before .before .before .before .before .before .before .before .good)
 
--- src/lib.rt:39:9
 slice-write-found : tie.Need-slice-write-found Inv-loop μ-loop
 slice-write-found c = inside _ _ _ _ _ _ (c .before .before .before .before .before .before .loop .inv) (c .before .before .before .before .before .loop-test .taken)
 
--- src/lib.rt:40:9
 add-k : tie.Need-add-k Inv-loop μ-loop
 add-k c = omega (arith, c .before .before .before .before .before .loop-test .taken, c .before .before .before .before .before .before .before .before .before .before .good)
 
--- src/lib.rt:34:5
 loop-less : tie.Need-loop-less Inv-loop μ-loop
 loop-less c = omega (arith, c .before .before .before .before .before .loop-test .taken)
 
--- src/lib.rt:34:5
 loop-again : tie.Need-loop-again Inv-loop μ-loop
 loop-again c = next _ _ _ _ _ _ (c .before .before .before .before .before .before .loop .inv) (c .before .before .before .before .before .loop-test .taken) _ (rw (← c .before .before .key-of .ensures) (c .quartered .ensures))
 
--- src/lib.rt:28:1
 same-length : tie.Need-same-length Inv-loop μ-loop
 same-length c = c .before .loop .inv .sized
 
--- src/lib.rt:28:1
 returns : tie.Need-returns Inv-loop μ-loop
 returns c = filled _ _ _ _ _ _ (c .before .loop .inv) (c .loop-test .left)
 

@@ -6,41 +6,28 @@ use Rattle.order.proofs.Rise.{narrow, by-parts, by-rest, empty}
 use borrow.Author.Needs.{needs}
 use Rattle.order.proofs.is_sorted.Statement.{statement}
 use Rattle.order.proofs.is_sorted.Tie as tie
-use Rattle.order.proofs.is_sorted.Reads as reads
-use Rattle.order.proofs.is_sorted.Lts as lts
-use Rattle.order.proofs.parts_rise.Reads as parts-rise-reads
-use Rattle.order.proofs.rises.Reads as rises-reads
-use Rattle.token.proofs.places_in.Reads as places-in-reads
 
--- src/lib.rt:84:9
 places-in-requires : tie.Need-places-in-requires
 places-in-requires c κs = search needs
 
--- src/lib.rt:86:9
 returns : tie.Need-returns
 returns c = empty _ (sym (c .before .places-in .ensures) ∙ c .if1 .taken)
 
--- src/lib.rt:88:16
 sub-last : tie.Need-sub-last
 sub-last c = search needs
 
--- src/lib.rt:90:16
 mul-rest : tie.Need-mul-rest
 mul-rest c = search needs
 
--- src/lib.rt:91:8
 parts-rise-requires : tie.Need-parts-rise-requires
 parts-rise-requires c κs = search needs
 
--- src/lib.rt:92:9
 rises-requires : tie.Need-rises-requires
 rises-requires c κs = search needs
 
--- src/lib.rt:92:9
 returns-2 : tie.Need-returns-2
 returns-2 c = by-rest _ (narrow _ (λ i. omega (arith, c .before .before .before .before .before .shared-slice-known .given i))) _ (omega (arith, c .before .before .before .before .places-in .ensures, c .before .before .before .if1 .left)) _ _ (c .before .before .parts-rise .ensures) (c .before .if2 .taken) _ (c .rises .ensures)
 
--- src/lib.rt:81:1
 returns-3 : tie.Need-returns-3
 returns-3 c = by-parts _ (narrow _ (λ i. omega (arith, c .before .before .before .before .shared-slice-known .given i))) (c .before .before .before .places-in .result - 1) (omega (arith, c .before .before .before .places-in .ensures, c .before .before .if1 .left)) _ _ (omega arith) (c .before .parts-rise .ensures) (c .if2 .left)
 

@@ -1,13 +1,10 @@
 -- `order::rises` meets its contract, by the laws of `Rise`. Assumes nothing.
 use native.Mathlib.Omega.{arith}
 use Prim.Native.Nat.{_-_, _≤_}
-use mathlib.Core.Path.{refl, sym, subst}
+use mathlib.Core.Path.{refl}
 use Rattle.order.proofs.Rise.{Upward, alone, next, fell, says-yes, says-no}
 use Rattle.order.proofs.rises.Statement.{statement}
 use Rattle.order.proofs.rises.Tie as tie
-use Rattle.order.proofs.rises.Reads as reads
-use Rattle.order.proofs.rises.Lts as lts
-use Rattle.order.proofs.key_at.Reads as key-at-reads
 
 abbrev Inv-loop : tie.InvT-loop
 Inv-loop table from to last₀ i₀ last i = (i ≤ to) × ((from ≤ i) × Upward table from i last)
@@ -15,35 +12,27 @@ Inv-loop table from to last₀ i₀ last i = (i ≤ to) × ((from ≤ i) × Upwa
 abbrev μ-loop : tie.MeasureT-loop
 μ-loop table from to last₀ i₀ last i = to - i
 
--- src/lib.rt:67:9
 key-at-requires : tie.Need-key-at-requires Inv-loop μ-loop
 key-at-requires c κs = omega (arith, c .before .pre .0, c .before .pre .1)
 
--- src/lib.rt:69:5
 loop-holds : tie.Need-loop-holds Inv-loop μ-loop
 loop-holds c = (c .before .before .pre .0, (omega arith, alone _ _ _ _ refl (c .key-at .ensures)))
 
--- src/lib.rt:70:9
 add-i : tie.Need-add-i Inv-loop μ-loop
 add-i c = omega (arith, c .loop-test .taken, c .before .before .before .before .pre .1, c .before .before .before .before .good)
 
--- src/lib.rt:71:13
 key-at-requires-2 : tie.Need-key-at-requires-2 Inv-loop μ-loop
 key-at-requires-2 c κs = omega (arith, c .loop-test .taken, c .before .before .before .before .pre .1)
 
--- src/lib.rt:73:13
 returns : tie.Need-returns Inv-loop μ-loop
 returns c = says-no (fell _ _ _ _ _ _ refl (c .before .before .before .loop .inv .1 .1) (c .before .key-at2 .ensures) (c .if1 .taken) _ _ (c .before .before .before .loop .inv .1 .0) (c .before .before .loop-test .taken))
 
--- src/lib.rt:69:5
 loop-less : tie.Need-loop-less Inv-loop μ-loop
 loop-less c = omega (arith, c .before .before .loop-test .taken)
 
--- src/lib.rt:69:5
 loop-again : tie.Need-loop-again Inv-loop μ-loop
 loop-again c = (omega (arith, c .before .before .loop-test .taken), (omega (arith, c .before .before .before .loop .inv .1 .0), next _ _ _ _ _ _ refl (c .before .before .before .loop .inv .1 .1) (c .before .key-at2 .ensures) (c .if1 .left)))
 
--- src/lib.rt:63:1
 returns-2 : tie.Need-returns-2 Inv-loop μ-loop
 returns-2 c = says-yes (λ j l g. c .before .loop .inv .1 .1 .rise j l (omega (arith, c .loop-test .left)))
 

@@ -88,29 +88,24 @@ pub unsafe extern "C" fn pgk_lookup(table: *const u8, n: usize, line: u32, col: 
     answered(|r| unsafe { raw_pgk_lookup(r, &fat((table, n)), line, col) })
 }
 
-#[unsafe(no_mangle)]
-pub unsafe extern "C" fn pgk_lookup_many(
-    table: *const u8,
-    n: usize,
-    positions: *const u8,
-    p: usize,
-    found: *const u8,
-    k: usize,
-) -> Words<2> {
-    answered(|r| unsafe { raw_pgk_lookup_many(r, &fat((table, n)), &fat((positions, p)), &fat((found, k))) })
+macro_rules! many {
+    ($name:ident, $raw:ident) => {
+        #[unsafe(no_mangle)]
+        pub unsafe extern "C" fn $name(
+            table: *const u8,
+            n: usize,
+            positions: *const u8,
+            p: usize,
+            found: *const u8,
+            k: usize,
+        ) -> Words<2> {
+            answered(|r| unsafe { $raw(r, &fat((table, n)), &fat((positions, p)), &fat((found, k))) })
+        }
+    };
 }
 
-#[unsafe(no_mangle)]
-pub unsafe extern "C" fn pgk_lookup_many_quick(
-    table: *const u8,
-    n: usize,
-    positions: *const u8,
-    p: usize,
-    found: *const u8,
-    k: usize,
-) -> Words<2> {
-    answered(|r| unsafe { raw_pgk_lookup_many_quick(r, &fat((table, n)), &fat((positions, p)), &fat((found, k))) })
-}
+many!(pgk_lookup_many, raw_pgk_lookup_many);
+many!(pgk_lookup_many_quick, raw_pgk_lookup_many_quick);
 
 #[unsafe(no_mangle)]
 pub unsafe extern "C" fn pgk_table_size(text: *const u8, n: usize) -> u64 {

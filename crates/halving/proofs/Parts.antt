@@ -6,10 +6,11 @@ use mathlib.Core.Option.{none, some}
 use Prim.Native.Nat.{ℕ, _+_, _*_, _-_, _/_, _<_, _≤_}
 use native.Mathlib.Omega.{arith}
 use lib.Dec.{leb, ltb}
-use lib.ListN.{length}
+use lib.ListN.{length, take, drop, getD}
+use lib.Seq.{getD-take, getD-drop}
 use borrow.Author.Tests.{leb-true, leb-false, le-leb, lt-leb, ltb-true, ltb-false}
 use Rattle.list.specs.Pick.{pick}
-use Rattle.token.specs.Table.{places, tokenAt}
+use Rattle.token.specs.Table.{width, places, tokenAt}
 use Rattle.token.specs.declared.Token.{Token}
 use Rattle.order.specs.Keys.{keyOf, keyAt, Rising}
 use Rattle.order.specs.Order.{NeverFalls}
@@ -38,6 +39,29 @@ module _ (a asked : ℕ) where
       by : (b : Bool) → r ≡ pick b 1 0 → r ≤ 1
       by true q = omega (arith, q)
       by false q = omega (arith, q)
+
+-- a token by its first two numbers: among the table's, and among those from the token at `base` on
+module _ (table : List ℕ) where
+  key-is : (i : ℕ) → keyOf (getD table (width * i) 0) (getD table (width * i + 1) 0) ≡ keyAt table i
+  unfolding tokenAt
+  key-is i = refl
+
+  pub counts : (i r asked : ℕ) → r ≡ countOf (keyOf (getD table (width * i) 0) (getD table (width * i + 1) 0)) asked → r ≡ countOf (keyAt table i) asked
+  counts i r asked q = q ∙ ap (λ (k : ℕ). countOf k asked) (key-is i)
+
+  module _ (base m d n : ℕ) (e : d ≡ width * m) (h : base + m < places (length table)) (all : n ≡ length table - width * base) where
+    behind : (k at : ℕ) → k < n → width * base + k ≡ at → getD (take n (drop (width * base) table)) k 0 ≡ getD table at 0
+    behind k at l q =
+        getD-take n (drop (width * base) table) k 0 l ∙ getD-drop (width * base) table k 0 ∙ ap (λ (j : ℕ). getD table j 0) q
+
+    key-behind : keyOf (getD (take n (drop (width * base) table)) d 0) (getD (take n (drop (width * base) table)) (d + 1) 0) ≡ keyAt table (base + m)
+    key-behind =
+        rw (behind d (width * (base + m)) (omega (arith, all, e)) (omega (arith, e)), behind (d + 1) (width * (base + m) + 1) (omega (arith, all, e)) (omega (arith, e)))
+        (key-is (base + m))
+
+    pub counts-behind : (r asked : ℕ) → r ≡ countOf (keyOf (getD (take n (drop (width * base) table)) d 0) (getD (take n (drop (width * base) table)) (d + 1) 0)) asked
+        → r ≡ countOf (keyAt table (base + m)) asked
+    counts-behind r asked q = q ∙ ap (λ (k : ℕ). countOf k asked) key-behind
 
 module _ (table : List ℕ) (rising : Rising table) (asked : ℕ) where
   -- what a test of a token says

@@ -5,14 +5,14 @@ use mathlib.Core.List.{List}
 use Prim.Native.Nat.{ℕ, _<_}
 use lib.ListN.{length}
 use Rattle.token.specs.Table.{places, tokenAt}
-use Rattle.order.specs.Order.{before, sorted}
+use Rattle.order.specs.Order.{standsBefore, sorted}
 use Rattle.lookup.specs.Lookup.{Fits, Best}
 
 -- the i-th token is the last at or before the position: it does not stand past it, and every later one does
 pub record LastUpTo (table : List ℕ) (line col i : ℕ) : Type 0 where
   pub within : i < places (length table)
-  pub up-to : before line col (tokenAt table i .«dst_line») (tokenAt table i .«dst_col») ≡ false
-  pub last : (j : ℕ) → i < j → j < places (length table) → before line col (tokenAt table j .«dst_line») (tokenAt table j .«dst_col») ≡ true
+  pub up-to : standsBefore line col (tokenAt table i .«dst_line») (tokenAt table i .«dst_col») ≡ false
+  pub last : (j : ℕ) → i < j → j < places (length table) → standsBefore line col (tokenAt table j .«dst_line») (tokenAt table j .«dst_col») ≡ true
 
 -- in a sorted table: where it is on the asked line it is the best, and else no token fits
 pub record Halves (table : List ℕ) (line col i : ℕ) : Type 0 where

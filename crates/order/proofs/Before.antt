@@ -8,7 +8,7 @@ use native.Mathlib.Nat.{eq-or-lt-of-le}
 use lib.Dec.{eqb, ltb}
 use borrow.Author.Tests.{eq-eqb, ne-eqb, eqb-true, eqb-false, le-ltb, ltb-true, ltb-false}
 use Rattle.list.specs.Pick.{pick}
-use Rattle.order.specs.Order.{before}
+use Rattle.order.specs.Order.{standsBefore}
 use Rattle.order.specs.Keys.{keyOf}
 
 -- at or before, as a fact: the line is less, or the same and the column is no more
@@ -28,10 +28,10 @@ module _ (line col line′ col′ : ℕ) where
           go (inr l) = l
 
   -- what does not stand before is at or past
-  pub up-to : before line col line′ col′ ≡ false → UpTo line′ col′ line col
+  pub up-to : standsBefore line col line′ col′ ≡ false → UpTo line′ col′ line col
   up-to h = if-line (eqb line line′) refl h
 
-  pub not-before : UpTo line′ col′ line col → before line col line′ col′ ≡ false
+  pub not-before : UpTo line′ col′ line col → standsBefore line col line′ col′ ≡ false
   not-before (inl l) = simp (ne-eqb line line′ (λ q. (let z : line ≡ line′ = q in omega arith)), le-ltb line line′ (let z : line′ ≤ line = omega arith in z))
   not-before (inr e) = simp (eq-eqb line line′ (sym (e .0)), le-ltb col col′ (e .1))
 
@@ -59,9 +59,9 @@ module _ (line col line′ col′ : ℕ) (narrow : col < 4294967296) where
           inr (q, omega arith)
 
 -- less as a number: before
-pub before-key : (line col line′ col′ : ℕ) → col′ < 4294967296 → keyOf line col < keyOf line′ col′ → before line col line′ col′ ≡ true
-before-key line col line′ col′ narrow h = by (before line col line′ col′) refl
+pub before-key : (line col line′ col′ : ℕ) → col′ < 4294967296 → keyOf line col < keyOf line′ col′ → standsBefore line col line′ col′ ≡ true
+before-key line col line′ col′ narrow h = by (standsBefore line col line′ col′) refl
   where
-    by : (b : Bool) → before line col line′ col′ ≡ b → b ≡ true
+    by : (b : Bool) → standsBefore line col line′ col′ ≡ b → b ≡ true
     by true e = refl
     by false e = let z = key-up line′ col′ line col narrow (up-to line col line′ col′ e) in absurd (omega arith)

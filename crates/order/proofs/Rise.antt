@@ -12,17 +12,17 @@ use borrow.Author.Count.{below-more}
 use borrow.Author.Tests.{ltb-true, ltb-false}
 use Rattle.token.specs.Table.{width, places, tokenAt}
 use Rattle.order.specs.Order.{firstFall, isNowhere, sorted, NeverFalls, FallSays}
-use Rattle.order.specs.Keys.{keyAt, Rise, Rising, Decides}
+use Rattle.order.specs.Keys.{keyAt, Rise, Rising, Settles}
 use Rattle.order.proofs.Before.{up-to, not-before, key-up, up-key}
 use Rattle.order.proofs.Falls.{says, sorted-never}
 
 never : {A : Type 0} → true ≡ false → A
 never e = let z : _≡_ {A = ℕ} 0 1 = cc in absurd (omega arith)
 
-pub says-yes : {P : Type 0} → P → Decides P true
+pub says-yes : {P : Type 0} → P → Settles P true
 says-yes p = record { yes = λ _. p; no = λ e. never e }
 
-pub says-no : {P : Type 0} → (P → ⊥) → Decides P false
+pub says-no : {P : Type 0} → (P → ⊥) → Settles P false
 says-no n = record { yes = λ e. never (sym e); no = λ _. n }
 
 -- a table's numbers have 32 bits
@@ -149,10 +149,10 @@ module _ (table : List ℕ) where
 
       -- up to `mid`, and from there on
       module _ (mid : ℕ) (r : Bool) where
-        pub by-parts : mid ≤ to → Decides (Rise table 0 mid) r → r ≡ false → false ≡ sorted table
+        pub by-parts : mid ≤ to → Settles (Rise table 0 mid) r → r ≡ false → false ≡ sorted table
         by-parts h d e = not-sorted (λ x. d .no e (λ j l g. x j l (omega arith)))
 
-        pub by-rest : Decides (Rise table 0 mid) r → r ≡ true → (t : Bool) → Decides (Rise table mid to) t → t ≡ sorted table
+        pub by-rest : Settles (Rise table 0 mid) r → r ≡ true → (t : Bool) → Settles (Rise table mid to) t → t ≡ sorted table
         by-rest d e true f = is-sorted (join 0 mid mid to (omega arith) (d .yes e) (f .yes refl))
         by-rest d e false f = not-sorted (λ x. f .no refl (λ j l g. x j (omega arith) g))
 

@@ -24,6 +24,6 @@ abbrev pub Rising : List ℕ → Type 0
 Rising table = (i j : ℕ) → i ≤ j → j < places (length table) → keyAt table i ≤ keyAt table j
 
 -- yes where it holds, no where it does not
-pub record Decides (P : Type 0) (r : Bool) : Type 0 where
+pub record Settles (P : Type 0) (r : Bool) : Type 0 where
   pub yes : r ≡ true → P
   pub no : r ≡ false → P → ⊥

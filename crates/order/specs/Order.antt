@@ -11,12 +11,12 @@ use Rattle.token.specs.Table.{places, tokenAt, tokensOf}
 use Rattle.token.specs.declared.Token.{Token}
 
 -- a position stands before another: its line is less, or it is the same and the column is less
-abbrev pub before : ℕ → ℕ → ℕ → ℕ → Bool
-before line col line′ col′ = pick (eqb line line′) (ltb col col′) (ltb line line′)
+abbrev pub standsBefore : ℕ → ℕ → ℕ → ℕ → Bool
+standsBefore line col line′ col′ = pick (eqb line line′) (ltb col col′) (ltb line line′)
 
 -- a token stands before one that comes earlier in the table
 abbrev pub falls : Token → Token → Bool
-falls earlier t = before (t .«dst_line») (t .«dst_col») (earlier .«dst_line») (earlier .«dst_col»)
+falls earlier t = standsBefore (t .«dst_line») (t .«dst_col») (earlier .«dst_line») (earlier .«dst_col»)
 
 -- of the tokens behind t, the first of which is the i-th: the first that stands before the one before it
 unfoldable pub fallFrom : ℕ → Token → List Token → Option ℕ

@@ -4,7 +4,7 @@ ghost use Prim.Native.Nat.{_*_, _<_, _≤_};
 ghost use lib.ListN.{length};
 ghost use Rattle.token.specs.Table.{places};
 ghost use Rattle.order.specs.Order.{sorted};
-ghost use Rattle.order.specs.Keys.{keyOf, keyAt, Rise, Decides};
+ghost use Rattle.order.specs.Keys.{keyOf, keyAt, Rise, Settles};
 
 // A position as one number, in the order of line, then column.
 pub fn key_of(line: u32, col: u32) -> u64
@@ -26,7 +26,7 @@ pub fn key_at(table: &[u32], i: usize) -> u64
 // sooner than one after the other.
 fn parts_rise(table: &[u32], part: usize) -> bool
     requires { ⌜ 4 * part < places (length (now table)) ⌝ }
-    ensures { λ r. ⌜ Decides (Rise (now (table .entry)) 0 (4 * part)) r ⌝ }
+    ensures { λ r. ⌜ Settles (Rise (now (table .entry)) 0 (4 * part)) r ⌝ }
 {
     let mut a = key_at(table, 0);
     let mut b = key_at(table, part);
@@ -62,7 +62,7 @@ fn parts_rise(table: &[u32], part: usize) -> bool
 // Whether no token falls behind `from`, up to `to`.
 fn rises(table: &[u32], from: usize, to: usize) -> bool
     requires { ⌜ (from ≤ to) × (to < places (length (now table))) ⌝ }
-    ensures { λ r. ⌜ Decides (Rise (now (table .entry)) from to) r ⌝ }
+    ensures { λ r. ⌜ Settles (Rise (now (table .entry)) from to) r ⌝ }
 {
     let mut last = key_at(table, from);
     let mut i = from;

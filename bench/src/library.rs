@@ -5,10 +5,6 @@ use peghayrick::{TokenChunk, WIDTH};
 
 use crate::texts::Names;
 
-unsafe extern "C" {
-    fn pgk_lookup_many_quick(table: *const u32, n: usize, positions: *const u32, m: usize, found: *mut u32, k: usize) -> Answer;
-}
-
 pub fn decode_lenient(text: &[u8], sources: u32, names: u32, table: &mut [u32]) -> Decoded {
     unsafe { pgk_decode_lenient(text.as_ptr(), text.len(), sources, names, table.as_mut_ptr(), table.len()) }
 }

@@ -2,7 +2,6 @@
 use mathlib.Core.Path.{_≡_, refl, sym, _∙_, ap, subst}
 use mathlib.Core.Bool.{Bool, true, false}
 use mathlib.Core.List.{List}
-use mathlib.Core.Option.{none, some}
 use Prim.Native.Nat.{ℕ, _+_, _*_, _-_, _/_, _<_, _≤_}
 use native.Mathlib.Omega.{arith}
 use lib.Dec.{leb, ltb}
@@ -83,26 +82,28 @@ module _ (table : List ℕ) (rising : Rising table) (asked : ℕ) where
     pub inside : (k : ℕ) → k < size → base + k < places (length table)
     inside k h = omega (arith, w .ends)
 
+    -- `left` tokens from the one at `at` on
+    made : (left at base′ : ℕ) → 0 < left → base′ ≡ at → at + left ≤ base + size → (0 < at → keyAt table at ≤ asked)
+        → (at + left < places (length table) → asked < keyAt table (at + left)) → Within table asked base′ left
+    made left at base′ one e g f t = rw e (record { some = one; ends = omega (arith, w .ends); from = f; to = t })
+
+    -- up to the end, as before
+    to-end : (left at : ℕ) → at + left ≡ base + size → at + left < places (length table) → asked < keyAt table (at + left)
+    to-end left at e h = subst (λ (m : ℕ). asked < keyAt table m) (sym e) (w .to (omega (arith, e)))
+
     -- halved twice
-    module _ (part : ℕ) (some : 0 < part) (four : 4 * part ≤ size) where
-      made : (at base′ : ℕ) → base′ ≡ at → at + (size - 3 * part) ≤ base + size → (0 < at → keyAt table at ≤ asked)
-          → (at + (size - 3 * part) < places (length table) → asked < keyAt table (at + (size - 3 * part))) → Within table asked base′ (size - 3 * part)
-      made at base′ e g f t = rw e (record { some = omega arith; ends = omega (arith, w .ends); from = f; to = t })
-
-      to-end : (at : ℕ) → at + (size - 3 * part) ≡ base + size → at + (size - 3 * part) < places (length table) → asked < keyAt table (at + (size - 3 * part))
-      to-end at e h = subst (λ (m : ℕ). asked < keyAt table m) (sym e) (w .to (omega (arith, e)))
-
+    module _ (part : ℕ) (one : 0 < part) (four : 4 * part ≤ size) where
       stepped : (a b c : Bool) → leb (keyAt table (base + part)) asked ≡ a → leb (keyAt table (base + 2 * part)) asked ≡ b
           → leb (keyAt table (base + 3 * part)) asked ≡ c → Within table asked (base + part * (pick a 1 0 + pick b 1 0 + pick c 1 0)) (size - 3 * part)
-      stepped true true true x y z = made (base + 3 * part) _ (omega arith) (omega arith) (λ _. leads (base + 3 * part) z) (to-end (base + 3 * part) (omega arith))
+      stepped true true true x y z = made (size - 3 * part) (base + 3 * part) _ (omega arith) (omega arith) (omega arith) (λ _. leads (base + 3 * part) z) (to-end (size - 3 * part) (base + 3 * part) (omega arith))
       stepped true true false x y z =
-          made (base + 2 * part) _ (omega arith) (omega arith) (λ _. leads (base + 2 * part) y)
+          made (size - 3 * part) (base + 2 * part) _ (omega arith) (omega arith) (omega arith) (λ _. leads (base + 2 * part) y)
           (λ h. later (base + 3 * part) (base + 2 * part + (size - 3 * part)) (omega arith) h z)
       stepped true false false x y z =
-          made (base + part) _ (omega arith) (omega arith) (λ _. leads (base + part) x)
+          made (size - 3 * part) (base + part) _ (omega arith) (omega arith) (omega arith) (λ _. leads (base + part) x)
           (λ h. later (base + 2 * part) (base + part + (size - 3 * part)) (omega arith) h y)
       stepped false false false x y z =
-          made base _ (omega arith) (omega arith) (w .from) (λ h. later (base + part) (base + (size - 3 * part)) (omega arith) h x)
+          made (size - 3 * part) base _ (omega arith) (omega arith) (omega arith) (w .from) (λ h. later (base + part) (base + (size - 3 * part)) (omega arith) h x)
       stepped true false true x y z = never (base + 2 * part) (base + 3 * part) (omega arith) (inside (3 * part) (omega arith)) y z
       stepped false true c x y z = never (base + part) (base + 2 * part) (omega arith) (inside (2 * part) (omega arith)) x y
       stepped false false true x y z = never (base + part) (base + 3 * part) (omega arith) (inside (3 * part) (omega arith)) x z
@@ -118,13 +119,6 @@ module _ (table : List ℕ) (rising : Rising table) (asked : ℕ) where
 
     -- the last few
     module _ (three : size ≤ 3) where
-      made-one : (at base′ : ℕ) → base′ ≡ at → at + 1 ≤ base + size → (0 < at → keyAt table at ≤ asked)
-          → (at + 1 < places (length table) → asked < keyAt table (at + 1)) → Within table asked base′ 1
-      made-one at base′ e g f t = rw e (record { some = omega arith; ends = omega (arith, w .ends); from = f; to = t })
-
-      ends-at : (at : ℕ) → at + 1 ≡ base + size → at + 1 < places (length table) → asked < keyAt table (at + 1)
-      ends-at at e h = subst (λ (m : ℕ). asked < keyAt table m) (sym e) (w .to (omega (arith, e)))
-
       past-at : (at next : ℕ) → at + 1 ≡ next → leb (keyAt table next) asked ≡ false → at + 1 < places (length table) → asked < keyAt table (at + 1)
       past-at at next e n h = subst (λ (m : ℕ). asked < keyAt table m) (sym e) (past next n)
 
@@ -133,26 +127,26 @@ module _ (table : List ℕ) (rising : Rising table) (asked : ℕ) where
       few false true a b x y z u = absurd (let h = ltb-true 2 size y in let g = ltb-false 1 size x in omega arith)
       few false false a b x y z u =
           let g = ltb-false 1 size x in
-          made-one base _ (omega arith) (omega (arith, w .some)) (w .from) (ends-at base (omega (arith, w .some)))
+          made 1 base _ (omega arith) (omega arith) (omega (arith, w .some)) (w .from) (to-end 1 base (omega (arith, w .some)))
       few true false true b x y z u =
           let h = ltb-true 1 size x in
           let g = ltb-false 2 size y in
-          made-one (base + 1) _ (omega arith) (omega arith) (λ _. leads (base + 1) z) (ends-at (base + 1) (omega arith))
+          made 1 (base + 1) _ (omega arith) (omega arith) (omega arith) (λ _. leads (base + 1) z) (to-end 1 (base + 1) (omega arith))
       few true false false b x y z u =
           let h = ltb-true 1 size x in
-          made-one base _ (omega arith) (omega arith) (w .from) (past-at base (base + 1) refl z)
+          made 1 base _ (omega arith) (omega arith) (omega arith) (w .from) (past-at base (base + 1) refl z)
       few true true true true x y z u =
           let h = ltb-true 2 size y in
-          made-one (base + 2) _ (omega arith) (omega arith) (λ _. leads (base + 2) u) (ends-at (base + 2) (omega arith))
+          made 1 (base + 2) _ (omega arith) (omega arith) (omega arith) (λ _. leads (base + 2) u) (to-end 1 (base + 2) (omega arith))
       few true true true false x y z u =
           let h = ltb-true 2 size y in
-          made-one (base + 1) _ (omega arith) (omega arith) (λ _. leads (base + 1) z) (past-at (base + 1) (base + 2) (omega arith) u)
+          made 1 (base + 1) _ (omega arith) (omega arith) (omega arith) (λ _. leads (base + 1) z) (past-at (base + 1) (base + 2) (omega arith) u)
       few true true false true x y z u =
           let h = ltb-true 2 size y in
           never (base + 1) (base + 2) (omega arith) (inside 2 (omega arith)) z u
       few true true false false x y z u =
           let h = ltb-true 2 size y in
-          made-one base _ (omega arith) (omega arith) (w .from) (past-at base (base + 1) refl z)
+          made 1 base _ (omega arith) (omega arith) (omega arith) (w .from) (past-at base (base + 1) refl z)
 
       pub few-left : (r s : ℕ) → r ≡ pick (ltb 1 size) (countOf (keyAt table (base + 1)) asked) 0 → s ≡ pick (ltb 2 size) (countOf (keyAt table (base + 2)) asked) 0
           → Within table asked (base + r + s) 1

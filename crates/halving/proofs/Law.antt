@@ -11,13 +11,10 @@ use lib.ListN.{length}
 use borrow.Author.Tests.{ltb-true, ltb-false}
 use Rattle.token.specs.Table.{places, tokenAt}
 use Rattle.order.specs.Order.{NeverFalls}
-use Rattle.order.proofs.Before.{UpTo, up-to, not-before}
+use Rattle.order.proofs.Before.{impossible, UpTo, up-to, not-before}
 use Rattle.order.proofs.Falls.{sorted-never}
 use Rattle.lookup.specs.Lookup.{Fits, NotAfter}
 use Rattle.halving.specs.Law.{LastUpTo, Halves, HalvingLaw}
-
-never : {A : Type 0} → true ≡ false → A
-never e = let z : _≡_ {A = ℕ} 0 1 = cc in absurd (omega arith)
 
 module _ (table : List ℕ) (line col i : ℕ) (rises : NeverFalls table (places (length table))) (l : LastUpTo table line col i) where
   abbrev lineAt : ℕ → ℕ
@@ -36,7 +33,7 @@ module _ (table : List ℕ) (line col i : ℕ) (rises : NeverFalls table (places
     not-later = by (ltb i j) refl
       where
         by : (b : Bool) → ltb i j ≡ b → j ≤ i
-        by true e = never (sym (l .last j (ltb-true i j e) (f .within)) ∙ not-before line col (lineAt j) (colAt j) (inr (f .on, f .before)))
+        by true e = impossible (sym (l .last j (ltb-true i j e) (f .within)) ∙ not-before line col (lineAt j) (colAt j) (inr (f .on, f .before)))
         by false e = ltb-false i j e
 
     -- so it is at or before the last

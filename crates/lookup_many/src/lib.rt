@@ -10,15 +10,33 @@ ghost use Rattle.lookup.specs.Lookup.{bestOf};
 ghost use Rattle.lookup.specs.Parts.{Between, indexOf};
 ghost use Rattle.lookup_many.specs.Many.{pairs, manyTo, LooksMany};
 ghost use Rattle.lookup_many.specs.Blocks.{Spans, Held};
+ghost use Rattle.lookup_many.specs.Places.{pairAt};
 
 // So many tokens are looked at together.
 const BLOCK: usize = 64;
+
+// A position that is asked for.
+pub struct Pair {
+    pub line: u32,
+    pub col: u32,
+}
 
 // Of tokens that are looked at together: the least and the greatest of their positions, and the latest token at the greatest.
 struct Block {
     least: u64,
     most: u64,
     last: u32,
+}
+
+// The k-th of the list.
+pub fn pair_at(positions: &[u32], k: usize) -> Pair
+    requires { ⌜ k < pairs (length (now positions)) ⌝ }
+    ensures { λ r. ⌜ r ≡ pairAt (now (positions .entry)) k ⌝ }
+{
+    Pair {
+        line: positions[2 * k],
+        col: positions[2 * k + 1],
+    }
 }
 
 // The tokens from `from` up to `to`; there is at least one.
@@ -93,10 +111,9 @@ fn look_block(table: &[u32], from: usize, to: usize, positions: &[u32], found: &
     let count = positions.len() / 2;
     let mut k: usize = 0;
     while k < count {
-        let line = positions[2 * k];
-        let col = positions[2 * k + 1];
+        let p = pair_at(positions, k);
         let was = found[k];
-        found[k] = past_block(table, from, to, b, line, col, was);
+        found[k] = past_block(table, from, to, b, p.line, p.col, was);
         k += 1;
     }
 }

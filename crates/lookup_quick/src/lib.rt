@@ -32,9 +32,8 @@ fn quarter_each(table: &[u32], size: usize, positions: &[u32], found: &mut [u32]
     let count = positions.len() / 2;
     let mut k: usize = 0;
     while k < count {
-        let line = positions[2 * k];
-        let col = positions[2 * k + 1];
-        let asked = order::key_of(line, col);
+        let p = lookup_many::pair_at(positions, k);
+        let asked = order::key_of(p.line, p.col);
         let base = halving::quartered(table, found[k] as usize, size, asked);
         found[k] = base as u32;
         k += 1;
@@ -49,9 +48,8 @@ fn find_each(table: &[u32], size: usize, positions: &[u32], found: &mut [u32])
     let count = positions.len() / 2;
     let mut k: usize = 0;
     while k < count {
-        let line = positions[2 * k];
-        let col = positions[2 * k + 1];
-        found[k] = halving::best_of_few(table, found[k] as usize, size, line, col);
+        let p = lookup_many::pair_at(positions, k);
+        found[k] = halving::best_of_few(table, found[k] as usize, size, p.line, p.col);
         k += 1;
     }
 }

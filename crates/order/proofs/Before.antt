@@ -11,6 +11,9 @@ use Rattle.list.specs.Pick.{pick}
 use Rattle.order.specs.Order.{standsBefore}
 use Rattle.order.specs.Keys.{keyOf}
 
+pub impossible : {A : Type 0} → true ≡ false → A
+impossible e = let z : _≡_ {A = ℕ} 0 1 = cc in absurd (omega arith)
+
 -- at or before, as a fact: the line is less, or the same and the column is no more
 abbrev pub UpTo : ℕ → ℕ → ℕ → ℕ → Type 0
 UpTo line col line′ col′ = (line < line′) ⊎ ((line ≡ line′) × (col ≤ col′))

@@ -11,7 +11,7 @@ use lib.ListN.{length}
 use Rattle.list.specs.Pick.{pick}
 use Rattle.token.specs.Table.{places, tokenAt, tokensFrom}
 use Rattle.order.specs.Order.{falls, fallFrom, fallIn, firstFall, isNowhere, sorted, NeverFalls, FallSays, SortedSays}
-use Rattle.order.proofs.Before.{UpTo, up-to, not-before, up-to-up}
+use Rattle.order.proofs.Before.{impossible, UpTo, up-to, not-before, up-to-up}
 
 module _ (table : List ℕ) where
   -- token j + 1 does not stand before token j
@@ -120,4 +120,4 @@ sorted-never table e = by (firstFall table) (says table) e
   where
     by : (o : Option ℕ) → FallSays table o → isNowhere o ≡ true → NeverFalls table (places (length table))
     by none f q = f
-    by (some k) f q = let z : _≡_ {A = ℕ} 0 1 = cc in absurd (omega arith)
+    by (some k) f q = impossible (sym q)

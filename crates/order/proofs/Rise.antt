@@ -13,17 +13,14 @@ use borrow.Author.Tests.{ltb-true, ltb-false}
 use Rattle.token.specs.Table.{width, places, tokenAt}
 use Rattle.order.specs.Order.{firstFall, isNowhere, sorted, NeverFalls, FallSays}
 use Rattle.order.specs.Keys.{keyAt, Rise, Rising, Settles}
-use Rattle.order.proofs.Before.{up-to, not-before, key-up, up-key}
+use Rattle.order.proofs.Before.{impossible, up-to, not-before, key-up, up-key}
 use Rattle.order.proofs.Falls.{says, sorted-never}
 
-never : {A : Type 0} → true ≡ false → A
-never e = let z : _≡_ {A = ℕ} 0 1 = cc in absurd (omega arith)
-
 pub says-yes : {P : Type 0} → P → Settles P true
-says-yes p = record { yes = λ _. p; no = λ e. never e }
+says-yes p = record { yes = λ _. p; no = λ e. impossible e }
 
 pub says-no : {P : Type 0} → (P → ⊥) → Settles P false
-says-no n = record { yes = λ e. never (sym e); no = λ _. n }
+says-no n = record { yes = λ e. impossible (sym e); no = λ _. n }
 
 -- a table's numbers have 32 bits
 pub narrow : (table : List ℕ) → ((i : ℕ) → getD table i 0 < 4294967296) → (j : ℕ) → tokenAt table j .«dst_col» < 4294967296
@@ -135,7 +132,7 @@ module _ (table : List ℕ) where
       sorted-if r (some k) f =
           let e : k - 1 + 1 ≡ k = omega (arith, f .behind) in
           let h : keyAt table (k - 1) ≤ keyAt table k = subst (λ (m : ℕ). keyAt table (k - 1) ≤ keyAt table m) e (r (k - 1) (omega arith) (omega (arith, f .within, f .behind))) in
-          never (sym (f .at-it (k - 1) e) ∙ not-before _ _ _ _ (up-key _ _ _ _ (cols (k - 1)) (cols k) h))
+          impossible (sym (f .at-it (k - 1) e) ∙ not-before _ _ _ _ (up-key _ _ _ _ (cols (k - 1)) (cols k) h))
 
       is-sorted : Rise table 0 to → true ≡ sorted table
       is-sorted r = sorted-if r (firstFall table) (says table)

@@ -1,6 +1,10 @@
 -- `lookup_many::look_block` meets its contract, by the laws of `Pairs`. Assumes nothing.
 use native.Mathlib.Omega.{arith}
+use mathlib.Core.Path.{sym, _∙_, ap}
 use Prim.Native.Nat.{_-_}
+use Rattle.lookup.specs.Lookup.{bestOf}
+use Rattle.lookup.specs.Parts.{indexOf}
+use Rattle.lookup_many.specs.declared.Pair.{Pair}
 use Rattle.lookup_many.proofs.Pairs.{Partly, Finds, begin, inside, next, filled}
 use Rattle.lookup_many.proofs.look_block.Statement.{statement}
 use Rattle.lookup_many.proofs.look_block.Tie as tie
@@ -17,50 +21,32 @@ block-of-requires c κs = c .before .before .before .pre .0
 loop-holds : tie.Need-loop-holds Inv-loop μ-loop
 loop-holds c = begin _ _ _ _ (c .before .before .before .before .pre .1 .0) (c .before .before .before .before .pre .1 .1 .each)
 
-mul-line : tie.Need-mul-line Inv-loop μ-loop
-mul-line c = omega (arith, c .loop-test .taken, c .before .before .before .before .before .before .good)
-
-mul-line-2 : tie.Need-mul-line-2 Inv-loop μ-loop
-mul-line-2 c = omega (arith, c .loop-test .taken, c .before .before .before .before .before .before .good)
-
-shared-slice-read-line : tie.Need-shared-slice-read-line Inv-loop μ-loop
-shared-slice-read-line c = omega (arith, c .before .loop-test .taken)
-
-mul-col : tie.Need-mul-col Inv-loop μ-loop
-mul-col c = omega (arith, c .before .loop-test .taken, c .before .before .before .before .before .before .before .good)
-
-add-col : tie.Need-add-col Inv-loop μ-loop
-add-col c = omega (arith, c .before .loop-test .taken, c .before .before .before .before .before .before .before .good)
-
-mul-col-2 : tie.Need-mul-col-2 Inv-loop μ-loop
-mul-col-2 c = omega (arith, c .before .loop-test .taken, c .before .before .before .before .before .before .before .good)
-
-shared-slice-read-col : tie.Need-shared-slice-read-col Inv-loop μ-loop
-shared-slice-read-col c = omega (arith, c .before .before .loop-test .taken)
+pair-at-requires : tie.Need-pair-at-requires Inv-loop μ-loop
+pair-at-requires c κs = c .loop-test .taken
 
 mul-was : tie.Need-mul-was Inv-loop μ-loop
-mul-was c = omega (arith, c .before .before .loop-test .taken, c .before .before .before .before .before .before .before .before .good)
+mul-was c = omega (arith, c .before .loop-test .taken, c .before .before .before .before .before .before .before .good)
 
 slice-read-was : tie.Need-slice-read-was Inv-loop μ-loop
-slice-read-was c = inside _ _ _ _ _ _ (c .before .before .before .before .loop .inv) (c .before .before .before .loop-test .taken)
+slice-read-was c = inside _ _ _ _ _ _ (c .before .before .before .loop .inv) (c .before .before .loop-test .taken)
 
 past-block-requires : tie.Need-past-block-requires Inv-loop μ-loop
-past-block-requires c κs = (c .before .before .before .before .before .before .before .before .before .pre .0 .0, (c .before .before .before .before .before .block-of .ensures, c .before .before .before .before .loop .inv .left _ (omega arith) (c .before .before .before .loop-test .taken)))
+past-block-requires c κs = (c .before .before .before .before .before .before .before .before .pre .0 .0, (c .before .before .before .before .block-of .ensures, c .before .before .before .loop .inv .left _ (omega arith) (c .before .before .loop-test .taken) ∙ ap (λ (q : Pair). indexOf (bestOf (c .before .before .before .before .before .before .before .before .args .table .now) (q .line) (q .col) (c .before .before .before .before .before .before .before .before .args .from))) (sym (c .before .pair-at .ensures))))
 
 mul-found : tie.Need-mul-found Inv-loop μ-loop
-mul-found c = omega (arith, c .before .before .before .before .loop-test .taken, c .before .before .before .before .before .before .before .before .before .before .good)
+mul-found c = omega (arith, c .before .before .before .loop-test .taken, c .before .before .before .before .before .before .before .before .before .good)
 
 slice-write-found : tie.Need-slice-write-found Inv-loop μ-loop
-slice-write-found c = inside _ _ _ _ _ _ (c .before .before .before .before .before .loop .inv) (c .before .before .before .before .loop-test .taken)
+slice-write-found c = inside _ _ _ _ _ _ (c .before .before .before .before .loop .inv) (c .before .before .before .loop-test .taken)
 
 add-k : tie.Need-add-k Inv-loop μ-loop
-add-k c = omega (arith, c .before .before .before .before .loop-test .taken, c .before .before .before .before .before .before .before .before .before .before .good)
+add-k c = omega (arith, c .before .before .before .loop-test .taken, c .before .before .before .before .before .before .before .before .before .good)
 
 loop-less : tie.Need-loop-less Inv-loop μ-loop
-loop-less c = omega (arith, c .before .before .before .before .loop-test .taken)
+loop-less c = omega (arith, c .before .before .before .loop-test .taken)
 
 loop-again : tie.Need-loop-again Inv-loop μ-loop
-loop-again c = next _ _ _ _ _ _ (c .before .before .before .before .before .loop .inv) (c .before .before .before .before .loop-test .taken) _ (c .past-block .ensures)
+loop-again c = next _ _ _ _ _ _ (c .before .before .before .before .loop .inv) (c .before .before .before .loop-test .taken) _ (c .past-block .ensures ∙ ap (λ (q : Pair). indexOf (bestOf (c .before .before .before .before .before .before .before .before .before .args .table .now) (q .line) (q .col) (c .before .before .before .before .before .before .before .before .before .args .to))) (c .before .before .pair-at .ensures))
 
 same-length : tie.Need-same-length Inv-loop μ-loop
 same-length c = c .before .loop .inv .sized
@@ -76,13 +62,7 @@ look-block-spec =
     μ-loop
     block-of-requires
     loop-holds
-    mul-line
-    mul-line-2
-    shared-slice-read-line
-    mul-col
-    add-col
-    mul-col-2
-    shared-slice-read-col
+    pair-at-requires
     mul-was
     slice-read-was
     past-block-requires

@@ -1,9 +1,15 @@
 -- `lookup_quick::find_each` meets its contract, by the laws of `Pairs`. Assumes nothing.
 use native.Mathlib.Omega.{arith}
+use mathlib.Core.Path.{sym, _∙_, ap, subst}
 use Prim.Native.Nat.{_-_}
-use lib.ListN.{length}
+use lib.ListN.{length, getD}
 use Rattle.token.specs.Table.{places}
+use Rattle.order.specs.Keys.{keyOf}
+use Rattle.lookup.specs.Lookup.{lookupOf}
+use Rattle.lookup.specs.Parts.{indexOf}
+use Rattle.lookup_many.specs.declared.Pair.{Pair}
 use Rattle.lookup_many.proofs.Pairs.{Partly, Finds, begin, inside, next, filled}
+use Rattle.halving.specs.Within.{Within}
 use Rattle.lookup_quick.specs.Each.{Leads}
 use Rattle.lookup_quick.proofs.find_each.Statement.{statement}
 use Rattle.lookup_quick.proofs.find_each.Tie as tie
@@ -17,53 +23,35 @@ abbrev μ-loop : tie.MeasureT-loop
 loop-holds : tie.Need-loop-holds Inv-loop μ-loop
 loop-holds c = begin _ _ _ _ (c .before .before .before .pre .1 .0) (c .before .before .before .pre .1 .1 .each)
 
-mul-line : tie.Need-mul-line Inv-loop μ-loop
-mul-line c = omega (arith, c .loop-test .taken, c .before .before .before .before .before .good)
-
-mul-line-2 : tie.Need-mul-line-2 Inv-loop μ-loop
-mul-line-2 c = omega (arith, c .loop-test .taken, c .before .before .before .before .before .good)
-
-shared-slice-read-line : tie.Need-shared-slice-read-line Inv-loop μ-loop
-shared-slice-read-line c = omega (arith, c .before .loop-test .taken, c .before .before .before .before .before .before .good)
-
-mul-col : tie.Need-mul-col Inv-loop μ-loop
-mul-col c = omega (arith, c .before .loop-test .taken, c .before .before .before .before .before .before .good)
-
-add-col : tie.Need-add-col Inv-loop μ-loop
-add-col c = omega (arith, c .before .loop-test .taken, c .before .before .before .before .before .before .good)
-
-mul-col-2 : tie.Need-mul-col-2 Inv-loop μ-loop
-mul-col-2 c = omega (arith, c .before .loop-test .taken, c .before .before .before .before .before .before .good)
-
-shared-slice-read-col : tie.Need-shared-slice-read-col Inv-loop μ-loop
-shared-slice-read-col c = omega (arith, c .before .before .loop-test .taken, c .before .before .before .before .before .before .before .good)
+pair-at-requires : tie.Need-pair-at-requires Inv-loop μ-loop
+pair-at-requires c κs = c .loop-test .taken
 
 mul-best-of-few : tie.Need-mul-best-of-few Inv-loop μ-loop
-mul-best-of-few c = omega (arith, c .before .before .loop-test .taken, c .before .before .before .before .before .before .before .good)
+mul-best-of-few c = omega (arith, c .before .loop-test .taken, c .before .before .before .before .before .before .good)
 
 slice-read-best-of-few : tie.Need-slice-read-best-of-few Inv-loop μ-loop
-slice-read-best-of-few c = inside _ _ _ _ _ _ (c .before .before .before .before .loop .inv) (c .before .before .before .loop-test .taken)
+slice-read-best-of-few c = inside _ _ _ _ _ _ (c .before .before .before .loop .inv) (c .before .before .loop-test .taken)
 
 cast-best-of-few : tie.Need-cast-best-of-few Inv-loop μ-loop
-cast-best-of-few c = omega (arith, c .slice-known2 .given (c .before .before .before .before .loop .k))
+cast-best-of-few c = omega (arith, c .slice-known2 .given (c .before .before .before .loop .k))
 
 best-of-few-requires : tie.Need-best-of-few-requires Inv-loop μ-loop
-best-of-few-requires c κs = (c .before .before .before .before .before .before .before .before .pre .0, c .before .before .before .before .loop .inv .left _ (omega arith) (c .before .before .before .loop-test .taken))
+best-of-few-requires c κs = (c .before .before .before .before .before .before .before .pre .0, subst (λ (q : Pair). Within (c .before .before .before .before .before .before .before .args .table .now) (keyOf (q .line) (q .col)) (getD (c .before .before .before .loop .found) (c .before .before .before .loop .k) 0) (c .before .before .before .before .before .before .before .args .size)) (sym (c .before .pair-at .ensures)) (c .before .before .before .loop .inv .left _ (omega arith) (c .before .before .loop-test .taken)))
 
 mul-found : tie.Need-mul-found Inv-loop μ-loop
-mul-found c = omega (arith, c .before .before .before .before .loop-test .taken, c .before .before .before .before .before .before .before .before .before .good)
+mul-found c = omega (arith, c .before .before .before .loop-test .taken, c .before .before .before .before .before .before .before .before .good)
 
 slice-write-found : tie.Need-slice-write-found Inv-loop μ-loop
-slice-write-found c = inside _ _ _ _ _ _ (c .before .before .before .before .before .loop .inv) (c .before .before .before .before .loop-test .taken)
+slice-write-found c = inside _ _ _ _ _ _ (c .before .before .before .before .loop .inv) (c .before .before .before .loop-test .taken)
 
 add-k : tie.Need-add-k Inv-loop μ-loop
-add-k c = omega (arith, c .before .before .before .before .loop-test .taken, c .before .before .before .before .before .before .before .before .before .good)
+add-k c = omega (arith, c .before .before .before .loop-test .taken, c .before .before .before .before .before .before .before .before .good)
 
 loop-less : tie.Need-loop-less Inv-loop μ-loop
-loop-less c = omega (arith, c .before .before .before .before .loop-test .taken)
+loop-less c = omega (arith, c .before .before .before .loop-test .taken)
 
 loop-again : tie.Need-loop-again Inv-loop μ-loop
-loop-again c = next _ _ _ _ _ _ (c .before .before .before .before .before .loop .inv) (c .before .before .before .before .loop-test .taken) _ (c .best-of-few .ensures)
+loop-again c = next _ _ _ _ _ _ (c .before .before .before .before .loop .inv) (c .before .before .before .loop-test .taken) _ (c .best-of-few .ensures ∙ ap (λ (q : Pair). indexOf (lookupOf (c .before .before .before .before .before .before .before .before .args .table .now) (q .line) (q .col))) (c .before .before .pair-at .ensures))
 
 same-length : tie.Need-same-length Inv-loop μ-loop
 same-length c = c .before .loop .inv .sized
@@ -78,13 +66,7 @@ find-each-spec =
     Inv-loop
     μ-loop
     loop-holds
-    mul-line
-    mul-line-2
-    shared-slice-read-line
-    mul-col
-    add-col
-    mul-col-2
-    shared-slice-read-col
+    pair-at-requires
     mul-best-of-few
     slice-read-best-of-few
     cast-best-of-few

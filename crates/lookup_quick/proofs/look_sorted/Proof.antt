@@ -23,7 +23,7 @@ loop-holds : tie.Need-loop-holds Inv-loop μ-loop
 loop-holds c = (omega arith, so-many _ (c .before .before .before .before .before .before .before .args .positions .now) _ (places (length (c .before .before .before .before .before .before .before .args .table .now))) _ _ _ (again _ _ _ _ (c .before .before .anywhere .ensures)) (sym (c .before .before .before .before .before .before .before .pre .0 .1 .1 .0)))
 
 quarter-each-requires : tie.Need-quarter-each-requires Inv-loop μ-loop
-quarter-each-requires c κs = ((c .before .before .before .before .before .before .before .before .before .before .pre .0 .0, (c .before .before .before .before .before .before .before .before .before .before .pre .0 .1 .0, c .before .loop-test .taken)), (omega (arith, c .before .before .loop .inv .1 .sized, c .before .before .before .before .before .anywhere .ensures .sized, c .before .before .before .before .before .before .before .before .before .before .pre .1), again _ _ _ _ (c .before .before .loop .inv .1)))
+quarter-each-requires c κs = ((c .before .before .before .before .before .before .before .before .before .before .pre .0 .0, (c .before .before .before .before .before .before .before .before .before .before .pre .0 .1 .0, omega (arith, c .before .loop-test .taken))), (omega (arith, c .before .before .loop .inv .1 .sized, c .before .before .before .before .before .anywhere .ensures .sized, c .before .before .before .before .before .before .before .before .before .before .pre .1), again _ _ _ _ (c .before .before .loop .inv .1)))
 
 mul-size : tie.Need-mul-size Inv-loop μ-loop
 mul-size c = omega (arith, c .before .before .before .before .before .loop .inv .0, c .before .before .before .before .before .before .before .before .before .before .before .before .before .fits .tokens)

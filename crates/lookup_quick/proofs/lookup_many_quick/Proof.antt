@@ -23,7 +23,7 @@ is-sorted-requires : tie.Need-is-sorted-requires
 is-sorted-requires c κs = search needs
 
 look-sorted-requires : tie.Need-look-sorted-requires
-look-sorted-requires c κs = (((ready _ _ (c .before .before .before .before .before .before .before .before .before .before .before .args .found .now) _ (c .before .before .before .before .before .before .before .code-for .ensures) (sym (c .before .before .before .before .before .before .code-of .ensures) ∙ c .before .before .before .before .before .if1 .left)) .0, (rising _ (narrow _ (λ i. omega (arith, c .before .before .before .before .before .before .before .before .before .before .shared-slice-known .given i))) (sym (c .before .before .is-sorted .ensures) ∙ c .before .if3 .taken), (c .before .before .before .before .places-in .ensures, omega (arith, c .before .before .before .if2 .taken)))), (ready _ _ (c .before .before .before .before .before .before .before .before .before .before .before .args .found .now) _ (c .before .before .before .before .before .before .before .code-for .ensures) (sym (c .before .before .before .before .before .before .code-of .ensures) ∙ c .before .before .before .before .before .if1 .left)) .1)
+look-sorted-requires c κs = (((ready _ _ (c .before .before .before .before .before .before .before .before .before .before .before .args .found .now) _ (c .before .before .before .before .before .before .before .code-for .ensures) (sym (c .before .before .before .before .before .before .code-of .ensures) ∙ c .before .before .before .before .before .if1 .left)) .0, (rising (c .before .before .before .before .before .before .before .before .before .before .before .args .table .now) (narrow _ (λ i. omega (arith, c .before .before .before .before .before .before .before .before .before .before .shared-slice-known .given i))) (sym (c .before .before .is-sorted .ensures) ∙ c .before .if3 .taken), (c .before .before .before .before .places-in .ensures, omega (arith, c .before .before .before .if2 .taken)))), (ready _ _ (c .before .before .before .before .before .before .before .before .before .before .before .args .found .now) _ (c .before .before .before .before .before .before .before .code-for .ensures) (sym (c .before .before .before .before .before .before .code-of .ensures) ∙ c .before .before .before .before .before .if1 .left)) .1)
 
 same-length : tie.Need-same-length
 same-length c = search needs

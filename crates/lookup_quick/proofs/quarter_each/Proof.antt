@@ -1,8 +1,11 @@
 -- `lookup_quick::quarter_each` meets its contract, by the laws of `Pairs`. Assumes nothing.
 use native.Mathlib.Omega.{arith}
+use mathlib.Core.Path.{_∙_, ap}
 use Prim.Native.Nat.{_-_, _*_, _/_}
 use lib.ListN.{length}
 use Rattle.token.proofs.Whole.{few}
+use Rattle.order.specs.Keys.{keyOf}
+use Rattle.lookup_many.specs.declared.Pair.{Pair}
 use Rattle.lookup_many.proofs.Pairs.{Partly, begin, inside, next, filled}
 use Rattle.lookup_quick.specs.Each.{Leads}
 use Rattle.lookup_quick.proofs.quarter_each.Statement.{statement}
@@ -17,59 +20,41 @@ abbrev μ-loop : tie.MeasureT-loop
 loop-holds : tie.Need-loop-holds Inv-loop μ-loop
 loop-holds c = begin _ _ _ _ (c .before .before .before .pre .1 .0) (c .before .before .before .pre .1 .1 .each)
 
-mul-line : tie.Need-mul-line Inv-loop μ-loop
-mul-line c = omega (arith, c .loop-test .taken, c .before .before .before .before .before .good)
-
-mul-line-2 : tie.Need-mul-line-2 Inv-loop μ-loop
-mul-line-2 c = omega (arith, c .loop-test .taken, c .before .before .before .before .before .good)
-
-shared-slice-read-line : tie.Need-shared-slice-read-line Inv-loop μ-loop
-shared-slice-read-line c = omega (arith, c .before .loop-test .taken, c .before .before .before .before .before .before .good)
-
-mul-col : tie.Need-mul-col Inv-loop μ-loop
-mul-col c = omega (arith, c .before .loop-test .taken, c .before .before .before .before .before .before .good)
-
-add-col : tie.Need-add-col Inv-loop μ-loop
-add-col c = omega (arith, c .before .loop-test .taken, c .before .before .before .before .before .before .good)
-
-mul-col-2 : tie.Need-mul-col-2 Inv-loop μ-loop
-mul-col-2 c = omega (arith, c .before .loop-test .taken, c .before .before .before .before .before .before .good)
-
-shared-slice-read-col : tie.Need-shared-slice-read-col Inv-loop μ-loop
-shared-slice-read-col c = omega (arith, c .before .before .loop-test .taken, c .before .before .before .before .before .before .before .good)
+pair-at-requires : tie.Need-pair-at-requires Inv-loop μ-loop
+pair-at-requires c κs = c .loop-test .taken
 
 key-of-requires : tie.Need-key-of-requires Inv-loop μ-loop
 key-of-requires c κs = tt
 
 mul-quartered : tie.Need-mul-quartered Inv-loop μ-loop
-mul-quartered c = omega (arith, c .before .before .before .loop-test .taken, c .before .before .before .before .before .before .before .before .good)
+mul-quartered c = omega (arith, c .before .before .loop-test .taken, c .before .before .before .before .before .before .before .good)
 
 slice-read-quartered : tie.Need-slice-read-quartered Inv-loop μ-loop
-slice-read-quartered c = inside _ _ _ _ _ _ (c .before .before .before .before .before .loop .inv) (c .before .before .before .before .loop-test .taken)
+slice-read-quartered c = inside _ _ _ _ _ _ (c .before .before .before .before .loop .inv) (c .before .before .before .loop-test .taken)
 
 cast-quartered : tie.Need-cast-quartered Inv-loop μ-loop
-cast-quartered c = omega (arith, c .slice-known2 .given (c .before .before .before .before .before .loop .k))
+cast-quartered c = omega (arith, c .slice-known2 .given (c .before .before .before .before .loop .k))
 
 quartered-requires : tie.Need-quartered-requires Inv-loop μ-loop
-quartered-requires c κs = (c .before .before .before .before .before .before .before .before .before .pre .0 .1, rw (c .before .key-of .ensures) (c .before .before .before .before .before .loop .inv .left _ (omega arith) (c .before .before .before .before .loop-test .taken)))
+quartered-requires c κs = (c .before .before .before .before .before .before .before .before .pre .0 .1, rw (c .before .key-of .ensures ∙ ap (λ (q : Pair). keyOf (q .line) (q .col)) (c .before .before .pair-at .ensures)) (c .before .before .before .before .loop .inv .left _ (omega arith) (c .before .before .before .loop-test .taken)))
 
 cast-found : tie.Need-cast-found Inv-loop μ-loop
-cast-found c = omega (arith, c .quartered .ensures .ends, c .quartered .ensures .some, few (length (c .before .before .before .before .before .before .before .before .before .before .args .table .now)) (c .before .before .before .before .before .before .before .before .before .before .pre .0 .0))
+cast-found c = omega (arith, c .quartered .ensures .ends, c .quartered .ensures .some, few (length (c .before .before .before .before .before .before .before .before .before .args .table .now)) (c .before .before .before .before .before .before .before .before .before .pre .0 .0))
 
 mul-found : tie.Need-mul-found Inv-loop μ-loop
-mul-found c = omega (arith, c .before .before .before .before .before .loop-test .taken, c .before .before .before .before .before .before .before .before .before .before .good)
+mul-found c = omega (arith, c .before .before .before .before .loop-test .taken, c .before .before .before .before .before .before .before .before .before .good)
 
 slice-write-found : tie.Need-slice-write-found Inv-loop μ-loop
-slice-write-found c = inside _ _ _ _ _ _ (c .before .before .before .before .before .before .loop .inv) (c .before .before .before .before .before .loop-test .taken)
+slice-write-found c = inside _ _ _ _ _ _ (c .before .before .before .before .before .loop .inv) (c .before .before .before .before .loop-test .taken)
 
 add-k : tie.Need-add-k Inv-loop μ-loop
-add-k c = omega (arith, c .before .before .before .before .before .loop-test .taken, c .before .before .before .before .before .before .before .before .before .before .good)
+add-k c = omega (arith, c .before .before .before .before .loop-test .taken, c .before .before .before .before .before .before .before .before .before .good)
 
 loop-less : tie.Need-loop-less Inv-loop μ-loop
-loop-less c = omega (arith, c .before .before .before .before .before .loop-test .taken)
+loop-less c = omega (arith, c .before .before .before .before .loop-test .taken)
 
 loop-again : tie.Need-loop-again Inv-loop μ-loop
-loop-again c = next _ _ _ _ _ _ (c .before .before .before .before .before .before .loop .inv) (c .before .before .before .before .before .loop-test .taken) _ (rw (← c .before .before .key-of .ensures) (c .quartered .ensures))
+loop-again c = next _ _ _ _ _ _ (c .before .before .before .before .before .loop .inv) (c .before .before .before .before .loop-test .taken) _ (rw (← (c .before .before .key-of .ensures ∙ ap (λ (q : Pair). keyOf (q .line) (q .col)) (c .before .before .before .pair-at .ensures))) (c .quartered .ensures))
 
 same-length : tie.Need-same-length Inv-loop μ-loop
 same-length c = c .before .loop .inv .sized
@@ -84,13 +69,7 @@ quarter-each-spec =
     Inv-loop
     μ-loop
     loop-holds
-    mul-line
-    mul-line-2
-    shared-slice-read-line
-    mul-col
-    add-col
-    mul-col-2
-    shared-slice-read-col
+    pair-at-requires
     key-of-requires
     mul-quartered
     slice-read-quartered

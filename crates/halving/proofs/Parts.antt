@@ -213,8 +213,8 @@ module _ (table : List ℕ) (rising : Rising table) (cols : (j : ℕ) → tokenA
     pub other-line : (t .«dst_line» ≡ line → ⊥) → 4294967295 ≡ indexOf (lookupOf table line col)
     other-line ne = nothing (λ _ e. ne (line-is ∙ e))
 
-    pub past-it : t .«dst_line» ≡ line → col < t .«dst_col» → 4294967295 ≡ indexOf (lookupOf table line col)
-    past-it e h = nothing (λ k _. (let z : tokenAt table last .«dst_line» ≡ line = sym line-is ∙ e in omega (arith, z, col-is)))
+    pub past-it : col < t .«dst_col» → 4294967295 ≡ indexOf (lookupOf table line col)
+    past-it h = nothing (λ k e. omega (arith, e, col-is))
 
     pub found : t .«dst_line» ≡ line → t .«dst_col» ≤ col → last ≡ indexOf (lookupOf table line col)
     found e h =

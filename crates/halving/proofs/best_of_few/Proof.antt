@@ -18,10 +18,10 @@ token-at-requires : tie.Need-token-at-requires
 token-at-requires c κs = search needs
 
 returns : tie.Need-returns
-returns c = other-line _ (c .before .before .before .before .before .before .pre .0 .1 .0) (narrow _ (λ i. omega (arith, c .before .before .before .before .before .shared-slice-known .given i))) _ _ _ _ (omega (arith, c .before .before .before .before .before .before .fits .col)) (c .before .before .before .before .key-of .ensures) (c .before .before .before .last-of-few .ensures) _ (c .before .before .token-at .ensures) (c .if1 .taken)
+returns c = other-line _ (c .before .before .before .before .before .before .pre .0 .1 .0) (narrow _ (λ i. omega (arith, c .before .before .before .before .before .shared-slice-known .given i))) _ _ _ _ (omega (arith, c .before .before .before .before .before .before .fits .col)) (c .before .before .before .before .key-of .ensures) (c .before .before .before .last-of-few .ensures) _ (c .before .before .token-at .ensures) (λ q. omega (arith, q, c .if1 .taken))
 
 returns-2 : tie.Need-returns-2
-returns-2 c = past-it _ (c .before .before .before .before .before .before .before .before .pre .0 .1 .0) (narrow _ (λ i. omega (arith, c .before .before .before .before .before .before .before .shared-slice-known .given i))) _ _ _ _ (omega (arith, c .before .before .before .before .before .before .before .before .fits .col)) (c .before .before .before .before .before .before .key-of .ensures) (c .before .before .before .before .before .last-of-few .ensures) _ (c .before .before .before .before .token-at .ensures) (c .before .before .if1 .left) (c .if2 .taken)
+returns-2 c = past-it _ (c .before .before .before .before .before .before .before .before .pre .0 .1 .0) (narrow _ (λ i. omega (arith, c .before .before .before .before .before .before .before .shared-slice-known .given i))) _ _ _ _ (omega (arith, c .before .before .before .before .before .before .before .before .fits .col)) (c .before .before .before .before .before .before .key-of .ensures) (c .before .before .before .before .before .last-of-few .ensures) _ (c .before .before .before .before .token-at .ensures) (c .if2 .taken)
 
 cast-result : tie.Need-cast-result
 cast-result c = omega (arith, c .before .before .before .before .before .last-of-few .ensures .ends, few (length (c .before .before .before .before .before .before .before .before .args .table .now)) (c .before .before .before .before .before .before .before .before .pre .0 .0))

@@ -1,3 +1,4 @@
+pub mod Ask
 pub mod Laws
 pub mod Made
 pub mod Step

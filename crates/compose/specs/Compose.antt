@@ -2,11 +2,11 @@
 use mathlib.Core.Path.{_≡_}
 use mathlib.Core.List.{List, [], _∷_}
 use mathlib.Core.Option.{Option, none, some}
-use Prim.Native.Nat.{ℕ}
+use Prim.Native.Nat.{ℕ, _+_, _*_}
 use lib.Dec.{eqb, ltb}
 use lib.ListN.{length}
 use Rattle.list.specs.Memory.{onto}
-use Rattle.list.specs.Pick.{pick}
+use Rattle.list.specs.Pick.{pick, both}
 use Rattle.code.specs.Code.{codeOf}
 use Rattle.code.specs.declared.Code.{Code}
 use Rattle.token.specs.Table.{token, isNone, places, badTable, tokenAt, tokensOf, over, noId}
@@ -95,3 +95,21 @@ pub record Composes (m : Maps) (result added : List ℕ) (r : Composed) (result�
   pub says : r ≡ composed m (length result) (length added)
   pub wrote : result′ ≡ pick (eqb (codeOf (composed m (length result) (length added) .code)) 0) (over (resultOf m .tokens) result) result
   pub listed : added′ ≡ pick (eqb (codeOf (composed m (length result) (length added) .code)) 0) (onto (resultOf m .added) added) added
+
+-- ---- with lent working memory
+
+-- the places it takes: two for each inner name and three for each outer one
+abbrev pub workFor : Maps → ℕ
+workFor m = 2 * count (m .innerNames) + 3 * count (m .outerNames)
+
+-- the same tests and the same answer; last of all, whether there are so many places
+unfoldable pub composedWith : Maps → ℕ → ℕ → ℕ → Composed
+composedWith m numbers room work =
+    pick (both (eqb (codeOf (composed m numbers room .code)) 0) (ltb work (workFor m))) (refused (Code.NoRoom (workFor m)))
+    (composed m numbers room)
+
+-- the answer, and what the lent result and the lent list hold then; what the working memory holds is left open
+pub record ComposesWith (m : Maps) (result added : List ℕ) (work : ℕ) (r : Composed) (result′ added′ : List ℕ) : Type 0 where
+  pub says : r ≡ composedWith m (length result) (length added) work
+  pub wrote : result′ ≡ pick (eqb (codeOf (composedWith m (length result) (length added) work .code)) 0) (over (resultOf m .tokens) result) result
+  pub listed : added′ ≡ pick (eqb (codeOf (composedWith m (length result) (length added) work .code)) 0) (onto (resultOf m .added) added) added

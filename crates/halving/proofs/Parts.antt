@@ -156,11 +156,8 @@ module _ (table : List ℕ) (rising : Rising table) (asked : ℕ) where
           (few (ltb 1 size) (ltb 2 size) (leb (keyAt table (base + 1)) asked) (leb (keyAt table (base + 2)) asked) refl refl refl refl)
 
 -- ---- the one that is left
-module _ (table : List ℕ) (rising : Rising table) (cols : (j : ℕ) → tokenAt table j .«dst_col» < 4294967296) (line col asked last : ℕ) (small : col < 4294967296)
-    (is : asked ≡ keyOf line col) (left : Within table asked last 1) where
-  w : Within table (keyOf line col) last 1
-  w = subst (λ (a : ℕ). Within table a last 1) is left
-
+module _ (table : List ℕ) (rising : Rising table) (cols : (j : ℕ) → tokenAt table j .«dst_col» < 4294967296) (line col last : ℕ) (small : col < 4294967296)
+    (w : Within table (keyOf line col) last 1) where
   never-falls : NeverFalls table (places (length table))
   never-falls i j l h = not-before _ _ _ _ (up-key _ _ _ _ (cols i) (cols j) (rising i j l h))
 

@@ -53,7 +53,7 @@ fn counted_of(table: &[u32], base: usize, k: usize, size: usize, asked: u64) -> 
 }
 
 // Of the three tokens at the most that are left, the one that the position leads to.
-fn last_of_few(table: &[u32], base: usize, size: usize, asked: u64) -> usize
+pub fn last_of_few(table: &[u32], base: usize, size: usize, asked: u64) -> usize
     requires { ⌜ (Rising (now table) × (size ≤ 3)) × Within (now table) asked base size ⌝ }
     ensures { λ r. ⌜ Within (now (table .entry)) asked r 1 ⌝ }
 {
@@ -62,12 +62,11 @@ fn last_of_few(table: &[u32], base: usize, size: usize, asked: u64) -> usize
     base + second + third
 }
 
-// The token at a position, of the three at the most that are left; NONE where there is none.
-pub fn best_of_few(table: &[u32], base: usize, size: usize, line: u32, col: u32) -> u32
-    requires { ⌜ ((badTable (length (now table)) ≡ false) × (Rising (now table) × (size ≤ 3))) × Within (now table) (keyOf line col) base size ⌝ }
+// The token at a position that leads to the one at `last`; NONE where there is none.
+pub fn best_at(table: &[u32], last: usize, line: u32, col: u32) -> u32
+    requires { ⌜ ((badTable (length (now table)) ≡ false) × Rising (now table)) × Within (now table) (keyOf line col) last 1 ⌝ }
     ensures { λ r. ⌜ r ≡ indexOf (lookupOf (now (table .entry)) line col) ⌝ }
 {
-    let last = last_of_few(table, base, size, order::key_of(line, col));
     let t = token::token_at(table, last);
     if t.dst_line != line {
         return NONE;
@@ -76,4 +75,13 @@ pub fn best_of_few(table: &[u32], base: usize, size: usize, line: u32, col: u32)
         return NONE;
     }
     last as u32
+}
+
+// The same where three tokens at the most are left.
+pub fn best_of_few(table: &[u32], base: usize, size: usize, line: u32, col: u32) -> u32
+    requires { ⌜ ((badTable (length (now table)) ≡ false) × (Rising (now table) × (size ≤ 3))) × Within (now table) (keyOf line col) base size ⌝ }
+    ensures { λ r. ⌜ r ≡ indexOf (lookupOf (now (table .entry)) line col) ⌝ }
+{
+    let last = last_of_few(table, base, size, order::key_of(line, col));
+    best_at(table, last, line, col)
 }

@@ -7,11 +7,12 @@ use Prim.Native.Nat.{ℕ, zero, suc, _+_, _-_, _≤_, _<_}
 use native.Mathlib.Omega.{arith}
 use native.Mathlib.Nat.{sub-zero}
 use native.Mathlib.Numerals.{add-one}
-use lib.ListN.{length, drop, getD}
-use lib.Seq.{drop-cons, drop-length}
+use lib.ListN.{length, drop, getD, length-drop}
+use lib.Seq.{drop-cons, drop-length, length-take-le}
 use Rattle.list.specs.Pick.{pick}
-use Rattle.names.specs.Names.{NameList, count, nameAt, same}
-use Rattle.names.proofs.Bytes.{same-is, same-self}
+use Rattle.names.specs.Names.{NameList, count, beginOf, sound, nameAt, same}
+use Rattle.names.proofs.Bytes.{same-is, same-self, differs}
+use Rattle.names.proofs.Ends.{name-within}
 use Rattle.name_ids.specs.declared.Search.{Search}
 use Rattle.name_ids.specs.NameIds.{firstName, firstAdded}
 use Rattle.name_ids.specs.Answers.{searchOf}
@@ -19,6 +20,16 @@ use Rattle.name_ids.specs.Answers.{searchOf}
 -- the code compares a part of the text that is the name
 pub told : (r t : Bool) (part name other : List ℕ) → r ≡ same part other → part ≡ name → r ≡ t → same name other ≡ t
 told r t part name other e p f = sym (ap (λ (l : List ℕ). same l other) p) ∙ (sym e ∙ f)
+
+-- a name of another length has other bytes
+pub other-length : (l : NameList) (name : List ℕ) (k from : ℕ) → sound l ≡ true → k < count l → from ≡ beginOf (l .ends) k
+    → (getD (l .ends) k 0 - from ≡ length name → ⊥) → false ≡ same (nameAt l k) name
+unfolding nameAt
+other-length l name k from s h e n =
+    let w = name-within l k s h in
+    let long : length (nameAt l k) ≡ getD (l .ends) k 0 - beginOf (l .ends) k
+    = length-take-le (getD (l .ends) k 0 - beginOf (l .ends) k) (drop (beginOf (l .ends) k) (l .text)) (omega (arith, w .low, w .high, length-drop (beginOf (l .ends) k) (l .text))) in
+    differs (nameAt l k) name (λ q. n (ap (λ (b : ℕ). getD (l .ends) k 0 - b) e ∙ (sym long ∙ q)))
 
 pub was-at : (o : Option ℕ) (k : ℕ) → Search.At k ≡ searchOf o → o ≡ some k
 was-at none k e = let z : _≡_ {A = ℕ} 0 1 = cc in absurd (omega arith)

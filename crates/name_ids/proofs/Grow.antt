@@ -1,5 +1,5 @@
 -- The added names as they grow, and the id that each branch gives. Assumes nothing.
-use mathlib.Core.Path.{_≡_, refl, ap}
+use mathlib.Core.Path.{_≡_, refl, ap, sym}
 use mathlib.Core.Bool.{Bool, true, false}
 use mathlib.Core.Logic.{_⊎_, inl, inr}
 use mathlib.Core.List.{List, [], _∷_, _++_}
@@ -19,6 +19,7 @@ use Rattle.token.specs.Table.{noId}
 use Rattle.name_ids.specs.Answers.{searchOf, namedBy, Kept, Searchable}
 use Rattle.name_ids.proofs.Holes.{at-most}
 use Rattle.name_ids.proofs.Find.{was-at, was-nothing, name-hit, name-missed, added-hit, added-missed}
+use Rattle.name_ids.proofs.Stays.{by-id}
 
 pub kept-none : (inner outer : NameList) → Kept inner outer []
 kept-none inner outer =
@@ -98,6 +99,14 @@ module _ (inner outer : NameList) (ids : List ℕ) (id : ℕ) where
     pub past : count outer ≤ id → namedBy ids id (record { id = noId; adds = false }) ≡ outerNamed inner outer ids id
     unfolding outerNamed
     past h = rw (le-ltb id (count outer) h)
+
+    -- one that was added, by its outer id
+    module _ (j : ℕ) (h : j < length ids) where
+      pub place-fits : count inner + j ≤ 4294967294
+      place-fits = omega (arith, inner-few, ids-few)
+
+      pub place-id : (j < length ids → getD ids j 0 ≡ id) → namedBy ids id (record { id = count inner + j; adds = false }) ≡ outerNamed inner outer ids id
+      place-id e = sym (by-id inner outer ids (s .kept) id j h (e h))
 
     module _ (h : id < count outer) (name : List ℕ) (en : name ≡ nameAt outer id) where
       module _ (j : ℕ) (e : Search.At j ≡ searchOf (firstName inner name 0 (count inner))) where

@@ -23,7 +23,7 @@ pub record Goes {A B : Type 0} (P : A → Type 0) (form : A → B) (r : B) : Typ
 
 -- 0.8.0: major, minor and patch, three figures each
 abbrev pub version : ℕ
-version = 8000
+version = 9000
 
 -- 1 for yes
 abbrev pub flag : Bool → ℕ

@@ -18,7 +18,7 @@ ghost use Rattle.checked_premises.specs.Checked.{DecidesChecked};
 ghost use Rattle.translate.specs.Translate.{Translates};
 ghost use Rattle.lookup.specs.Lookup.{Looks};
 ghost use Rattle.lookup_many.specs.Many.{LooksMany};
-ghost use Rattle.compose.specs.Compose.{mapsOf, Composes};
+ghost use Rattle.compose.specs.Compose.{mapsOf, Composes, ComposesWith};
 ghost use Rattle.records.specs.Records.{TranslatesRecords, answerOf};
 ghost use Rattle.peghayrick.specs.Exports.{Goes, version, flag, decodedOut, encodedOut, foundOut, composedOut, nameOut};
 
@@ -124,7 +124,7 @@ fn answer_out(c: Code) -> Answer
 pub extern "C" fn pgk_version() -> u64
     ensures { λ r. ⌜ r ≡ version ⌝ }
 {
-    8000
+    9000
 }
 
 // The numbers that a table needs so that decoding the text never says TableFull.
@@ -270,6 +270,36 @@ pub extern "C" fn pgk_compose(
         inner_ends,
         result,
         added,
+    ))
+}
+
+// The same with lent working memory.
+#[no_mangle]
+pub extern "C" fn pgk_compose_with(
+    outer: &[u32],
+    outer_sources: u32,
+    outer_names: &[u8],
+    outer_ends: &[usize],
+    inner: &[u32],
+    inner_names: &[u8],
+    inner_ends: &[usize],
+    result: &mut [u32],
+    added: &mut [u32],
+    work: &mut [u32],
+) -> ComposedOut
+    ensures { λ r. ⌜ Goes (λ m. ComposesWith (mapsOf (now (outer .entry)) «outer_sources» (now («outer_names» .entry)) (now («outer_ends» .entry)) (now (inner .entry)) (now («inner_names» .entry)) (now («inner_ends» .entry))) (now (result .entry)) (now (added .entry)) (length (now (work .entry))) m (now (result .exit)) (now (added .exit))) composedOut r ⌝ }
+{
+    composed_out(compose::compose_with(
+        outer,
+        outer_sources,
+        outer_names,
+        outer_ends,
+        inner,
+        inner_names,
+        inner_ends,
+        result,
+        added,
+        work,
     ))
 }
 

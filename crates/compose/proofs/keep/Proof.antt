@@ -1,5 +1,6 @@
+-- `compose::keep` meets its contract, by the laws of `Ask`. Assumes nothing.
 use native.Mathlib.Omega.{arith}
-use Rattle.compose.proofs.Turn.{stores, passes}
+use Rattle.compose.proofs.Ask.{stores, passes}
 use borrow.Author.Needs.{needs}
 use Rattle.compose.proofs.keep.Statement.{statement}
 use Rattle.compose.proofs.keep.Tie as tie

@@ -1,40 +1,46 @@
-use Prim.Native.Nat.{_-_}
+-- `name_ids::first_name` meets its contract, by the laws of `Find`. Assumes nothing.
 use native.Mathlib.Omega.{arith}
-use borrow.Author.Needs.{needs}
+use native.Mathlib.Numerals.{add-one}
+use mathlib.Core.Path.{_≡_, refl, sym, _∙_}
+use Prim.Native.Nat.{_-_}
 use lib.ListN.{length}
-use Rattle.name_ids.proofs.Find.{told, Passed, start, found, goes-on, ended}
+use Rattle.names.specs.Names.{beginOf}
+use Rattle.name_ids.proofs.Find.{Passed, start, found, goes-on, ended}
 use Rattle.name_ids.proofs.first_name.Statement.{statement}
 use Rattle.name_ids.proofs.first_name.Tie as tie
 
 abbrev Inv-loop : tie.InvT-loop
-Inv-loop text ends name k₀ k = Passed (record { text = text; ends = ends }) name k
+Inv-loop text ends name from₀ k₀ from k = Passed (record { text = text; ends = ends }) name k × (from ≡ beginOf ends k)
 
 abbrev μ-loop : tie.MeasureT-loop
-μ-loop text ends name k₀ k = length ends - k
+μ-loop text ends name from₀ k₀ from k = length ends - k
 
 loop-holds : tie.Need-loop-holds Inv-loop μ-loop
-loop-holds c = start _ _
+loop-holds c = (start _ _, refl)
 
-name-at-requires : tie.Need-name-at-requires Inv-loop μ-loop
-name-at-requires c κs = (c .before .before .before .before .before .pre, c .loop-test .taken)
-
-same-bytes-requires : tie.Need-same-bytes-requires Inv-loop μ-loop
-same-bytes-requires c κs = search needs
+is-name-requires : tie.Need-is-name-requires Inv-loop μ-loop
+is-name-requires c κs = (c .before .before .before .before .before .pre, (c .loop-test .taken, c .before .loop .inv .1))
 
 returns : tie.Need-returns Inv-loop μ-loop
-returns c = found _ _ _ (c .before .before .before .before .loop .inv) (omega arith) (told _ _ _ _ _ (c .before .same-bytes .ensures) (c .before .before .name-at .ensures) (c .if1 .taken))
+returns c = found _ _ _ (c .before .before .before .loop .inv .0) (c .before .before .loop-test .taken) (sym (c .before .is-name .ensures) ∙ c .if1 .taken)
+
+mul-from : tie.Need-mul-from Inv-loop μ-loop
+mul-from c = omega (arith, c .before .before .loop-test .taken, c .before .before .before .before .before .before .before .good .1 .0)
+
+shared-slice-read-from : tie.Need-shared-slice-read-from Inv-loop μ-loop
+shared-slice-read-from c = c .before .before .before .loop-test .taken
 
 add-k : tie.Need-add-k Inv-loop μ-loop
-add-k c = search needs
+add-k c = omega (arith, c .before .before .before .loop-test .taken, c .before .before .before .before .before .before .before .before .good .1 .0)
 
 loop-less : tie.Need-loop-less Inv-loop μ-loop
-loop-less c = search needs
+loop-less c = omega (arith, c .before .before .before .loop-test .taken)
 
 loop-again : tie.Need-loop-again Inv-loop μ-loop
-loop-again c = goes-on _ _ _ (c .before .before .before .before .loop .inv) (omega arith) (told _ _ _ _ _ (c .before .same-bytes .ensures) (c .before .before .name-at .ensures) (c .if1 .left))
+loop-again c = (goes-on _ _ _ (c .before .before .before .before .loop .inv .0) (c .before .before .before .loop-test .taken) (sym (c .before .before .is-name .ensures) ∙ c .before .if1 .left), rw (add-one (c .before .before .before .before .loop .k)))
 
 returns-2 : tie.Need-returns-2 Inv-loop μ-loop
-returns-2 c = ended _ _ _ (c .before .loop .inv) (c .loop-test .left)
+returns-2 c = ended _ _ _ (c .before .loop .inv .0) (c .loop-test .left)
 
 pub first-name-spec : {M : Type 1} → statement M
 first-name-spec =
@@ -43,9 +49,10 @@ first-name-spec =
     Inv-loop
     μ-loop
     loop-holds
-    name-at-requires
-    same-bytes-requires
+    is-name-requires
     returns
+    mul-from
+    shared-slice-read-from
     add-k
     loop-less
     loop-again

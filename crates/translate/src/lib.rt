@@ -10,7 +10,7 @@ ghost use Rattle.token.specs.Table.{tokensOf, over};
 ghost use Rattle.translate.specs.Translate.{idMoved, idTooBig, tooBig, allMoved, firstTooBig, translatesTo, Translates};
 ghost use Rattle.translate.specs.Covers.{noCover, fromOne, coverWith, coverFits, Over};
 
-// Numbers laid over those of some tokens that are moved, none of which passes them. Ids are counted from 1, so that none is 0.
+// Lies over some tokens: none has a line past its line, or an id past its source or name. Ids are counted from 1, so that none is 0.
 pub struct Cover {
     pub line: u32,
     pub source: u32,
@@ -33,7 +33,8 @@ fn from_one(id: u32) -> u32
     std::num::wrapping_add_u32(id, 1)
 }
 
-// Bits are put together and no numbers compared: the pass over all tokens has no branch for a token, and for none least of all.
+// The cover with one more token under it. Bits are put together and nothing is compared: which ids are none is as good as random, and
+// a branch on them takes longer than all else.
 fn cover_with(c: Cover, t: Token) -> Cover
     ensures { λ r. ⌜ r ≡ coverWith c t ⌝ }
 {
@@ -46,6 +47,7 @@ fn cover_with(c: Cover, t: Token) -> Cover
     }
 }
 
+// The same for two tokens, as the passes over all tokens read them.
 pub fn cover_both(c: Cover, t: Token, u: Token) -> Cover
     ensures { λ r. ⌜ Over c t u r ⌝ }
 {
@@ -53,7 +55,7 @@ pub fn cover_both(c: Cover, t: Token, u: Token) -> Cover
     cover_with(one, u)
 }
 
-// Whether no sum passes the range: then no token under the cover is too big. Tests what is left of the range, so that no sum can wrap.
+// Whether no sum passes the range: then no token under the cover is too big. Tests what is left of the range, so that none can wrap.
 pub fn cover_fits(c: Cover, line: u32, source: u32, name: u32) -> bool
     ensures { λ r. ⌜ r ≡ coverFits line source name c ⌝ }
 {
@@ -69,7 +71,7 @@ pub fn cover_fits(c: Cover, line: u32, source: u32, name: u32) -> bool
     true
 }
 
-// Whether a line sum would pass the range, or an id sum reach none: of one token, the cover says it exactly.
+// Whether a line sum would pass the range, or an id sum reach none: a cover over one token alone says so exactly.
 pub fn too_big(t: Token, line: u32, source: u32, name: u32) -> bool
     ensures { λ r. ⌜ r ≡ tooBig line source name t ⌝ }
 {
@@ -107,8 +109,8 @@ pub fn moved(t: Token, line: u32, source: u32, name: u32) -> Token
     }
 }
 
-// Yes only where no token is too big; where numbers are so large that bits of several reach further than each, no. The two halves are
-// read side by side, since memory hands out two places sooner than one after the other; with an odd number they share a token.
+// Yes only if no token is too big. No where one is, or where numbers are so large that their bits together pass the range. The two
+// halves are read side by side: memory hands out two places sooner than one after the other. Of an odd number they share a token.
 fn none_too_big(table: &[u32], line: u32, source: u32, name: u32) -> bool
     ensures { λ r. ⌜ (r ≡ true → firstTooBig line source name 0 (tokensOf (now (table .entry))) ≡ none) ⌝ }
 {
@@ -126,7 +128,7 @@ fn none_too_big(table: &[u32], line: u32, source: u32, name: u32) -> bool
     cover_fits(c, line, source, name)
 }
 
-// What translating the table answers; the table is only looked at, and token by token only where some may be too big.
+// What translating the table answers; the table is only looked at, and token by token only if one may be too big.
 fn code_for(table: &[u32], line: u32, source: u32, name: u32) -> Code
     ensures { λ r. ⌜ r ≡ translatesTo line source name (now (table .entry)) ⌝ }
 {

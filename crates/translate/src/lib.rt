@@ -55,7 +55,7 @@ pub fn cover_both(c: Cover, t: Token, u: Token) -> Cover
     cover_with(one, u)
 }
 
-// Whether no sum passes the range: then no token under the cover is too big. Tests what is left of the range, so that none can wrap.
+// Whether no sum passes the range: then no token under the cover is too big. Tests what is left of the range, so that nothing wraps.
 pub fn cover_fits(c: Cover, line: u32, source: u32, name: u32) -> bool
     ensures { λ r. ⌜ r ≡ coverFits line source name c ⌝ }
 {

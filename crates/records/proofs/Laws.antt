@@ -15,7 +15,8 @@ use Rattle.code.specs.Code.{codeOf}
 use Rattle.code.specs.declared.Code.{Code}
 use Rattle.token.specs.declared.Token.{Token}
 use Rattle.translate.specs.Translate.{tooBig, moved, allMoved, firstTooBig, unlessTooBig}
-use Rattle.translate.proofs.Scan.{first-here, first-on, first-none}
+use Rattle.translate.proofs.Scan.{first-here, first-on}
+use Rattle.translate.proofs.Pass.{none-first}
 use Rattle.records.specs.Records.{recordsTo, answerOf, TranslatesRecords}
 use Rattle.records.specs.declared.Answer.{Answer}
 
@@ -61,6 +62,11 @@ module _ (line source name : ℕ) (ts : List Token) where
   unfolding recordsTo
   too-many h = answered Code.BadTable ts (rw (lt-ltb 4294967294 (length ts) h)) refl
 
+  -- no record is too big
+  pub cleared : length ts ≤ 4294967294 → ((k : ℕ) → k < length ts → tooBig line source name (getD ts k noToken) ≡ false) → recordsTo line source name ts ≡ Code.Done
+  unfolding recordsTo
+  cleared few small = rw (le-ltb 4294967294 (length ts) few) (ap unlessTooBig (none-first line source name noToken 0 ts small))
+
   pub translated : recordsTo line source name ts ≡ Code.Done → TranslatesRecords line source name ts (record { code = 0; number = 0 }) (map (moved line source name) ts)
   translated e = answered Code.Done (map (moved line source name) ts) e (all-map line source name ts)
 
@@ -97,11 +103,6 @@ module _ (line source name : ℕ) (ts : List Token) where
           answered (Code.TooBig i) ts
           (is-first ∙ ap unlessTooBig (ap (firstTooBig line source name i) (drop-cons ts i noToken h) ∙ first-here line source name i (getD ts i noToken) (drop (suc i) ts) e))
           refl
-
-      pub cleared : i ≡ length ts → recordsTo line source name ts ≡ Code.Done
-      cleared e =
-          is-first
-          ∙ ap unlessTooBig (ap (firstTooBig line source name i) (ap (λ (k : ℕ). drop k ts) e ∙ drop-length ts) ∙ first-none line source name i)
 
 pub one-answer : {line source name : ℕ} {ts : List Token} {r q : Answer} {t u : List Token}
     → TranslatesRecords line source name ts r t → TranslatesRecords line source name ts q u → (r ≡ q) × (t ≡ u)

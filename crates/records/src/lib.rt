@@ -10,7 +10,8 @@ pub struct Answer {
     pub number: u64,
 }
 
-// Looks first and writes after, so that a refusal leaves every record as it was.
+// Looks first and writes after, so that a refusal leaves every record as it was. All records are looked at under one cover, the two
+// halves side by side, and one by one only if it does not fit.
 pub fn translate_tokens(
     ts: &mut [Token],
     line_offset: u32,
@@ -26,17 +27,29 @@ pub fn translate_tokens(
             number: 0,
         };
     }
-    let mut i: usize = 0;
-    while i < ts.len() {
-        let t = ts[i];
-        if translate::too_big(t, line_offset, source_offset, name_offset) {
-            // TooBig
-            return Answer {
-                code: 12,
-                number: i as u64,
-            };
+    let other = ts.len() / 2;
+    let half = ts.len() - other;
+    let mut c = translate::no_cover();
+    let mut k: usize = 0;
+    while k < half {
+        let t = ts[k];
+        let u = ts[other + k];
+        c = translate::cover_both(c, t, u);
+        k += 1;
+    }
+    if !translate::cover_fits(c, line_offset, source_offset, name_offset) {
+        let mut i: usize = 0;
+        while i < ts.len() {
+            let t = ts[i];
+            if translate::too_big(t, line_offset, source_offset, name_offset) {
+                // TooBig
+                return Answer {
+                    code: 12,
+                    number: i as u64,
+                };
+            }
+            i += 1;
         }
-        i += 1;
     }
     let mut j: usize = 0;
     while j < ts.len() {

@@ -37,6 +37,10 @@ module _ (line source name : ℕ) where
   unfolding translatesTo
   is-first table e = rw e
 
+  pub is-done : (table : List ℕ) → badTable (length table) ≡ false → firstTooBig line source name 0 (tokensOf table) ≡ none
+      → Code.Done ≡ translatesTo line source name table
+  is-done table e n = sym (is-first table e ∙ ap unlessTooBig n)
+
   -- all is the number of tokens
   pub record Scanned (table : List ℕ) (all i : ℕ) : Type 0 where
     pub fine : badTable (length table) ≡ false

@@ -8,6 +8,7 @@ use records::Answer;
 use token::Token;
 use token::TokenChunk;
 ghost use mathlib.Core.Path.{_≡_};
+ghost use lib.ListN.{length};
 ghost use Rattle.value.specs.declared.Mode.{Mode};
 ghost use Rattle.names.specs.Names.{nameList, placeOf};
 ghost use Rattle.decode.specs.Mapping.{byDefault, Decodes};

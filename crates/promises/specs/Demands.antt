@@ -7,7 +7,7 @@
 -- Demand 3: what is written reads back.
 use mathlib.Core.Path.{_≡_, refl, sym, _∙_, ap}
 use mathlib.Core.List.{List}
-use Prim.Native.Nat.{ℕ, _<_}
+use Prim.Native.Nat.{ℕ, _<_, _≤_}
 use lib.ListN.{length, getD}
 use Rattle.token.specs.declared.Token.{Token}
 use Rattle.token.specs.declared.TokenChunk.{TokenChunk}
@@ -41,7 +41,7 @@ use Rattle.order.proofs.Falls as order
 use Rattle.halving.specs.Law.{HalvingLaw}
 use Rattle.halving.proofs.Law as halving
 use Rattle.names.specs.Names.{NameList, placeOf}
-use Rattle.compose.specs.Compose.{Maps, Composes}
+use Rattle.compose.specs.Compose.{Maps, workFor, Composes, ComposesWith}
 use Rattle.compose.proofs.Unique as compose
 use Rattle.premises.specs.Premises.{Decides}
 use Rattle.premises.proofs.Unique as premises
@@ -139,6 +139,23 @@ pub one-compose : (m : Maps) (result added : List ℕ) (r s : ComposedOut) (x y 
     → Goes (λ o. Composes m result added o x v) composedOut r → Goes (λ o. Composes m result added o y w) composedOut s → (r ≡ s) × ((x ≡ y) × (v ≡ w))
 one-compose m result added r s x y v w a b =
     let e = compose.one-answer m result added (a .inner) (b .inner) x v y w (a .holds) (b .holds) in
+    (a .says ∙ ap composedOut (e .0) ∙ sym (b .says), e .1)
+
+-- pgk_compose_with: one answer, one result and one added list; what the working memory holds then is left open
+pub one-compose-with : (m : Maps) (result added : List ℕ) (work : ℕ) (r s : ComposedOut) (x y v w : List ℕ)
+    → Goes (λ o. ComposesWith m result added work o x v) composedOut r → Goes (λ o. ComposesWith m result added work o y w) composedOut s
+    → (r ≡ s) × ((x ≡ y) × (v ≡ w))
+one-compose-with m result added work r s x y v w a b =
+    let e = compose.one-answer-with m result added work (a .inner) (b .inner) x v y w (a .holds) (b .holds) in
+    (a .says ∙ ap composedOut (e .0) ∙ sym (b .says), e .1)
+
+-- and with as many places of it as it takes, they are those of pgk_compose
+pub with-and-without : (m : Maps) (result added : List ℕ) (work : ℕ) → workFor m ≤ work → (r s : ComposedOut) (x y v w : List ℕ)
+    → Goes (λ o. Composes m result added o x v) composedOut r → Goes (λ o. ComposesWith m result added work o y w) composedOut s
+    → (r ≡ s) × ((x ≡ y) × (v ≡ w))
+with-and-without m result added work h r s x y v w a b =
+    let c = compose.with-plain m result added work h (b .inner) y w (b .holds) in
+    let e = compose.one-answer m result added (a .inner) (b .inner) x v y w (a .holds) c in
     (a .says ∙ ap composedOut (e .0) ∙ sym (b .says), e .1)
 
 -- pgk_name_of

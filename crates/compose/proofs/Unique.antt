@@ -13,15 +13,15 @@ pub one-answer : (m : Maps) (result added : List ℕ) (r s : Composed) (result�
 one-answer m result added r s result₁ added₁ result₂ added₂ a b =
     (a .says ∙ sym (b .says), (a .wrote ∙ sym (b .wrote), a .listed ∙ sym (b .listed)))
 
-pub one-answer-with : (m : Maps) (result added : List ℕ) (work : ℕ) (r s : Composed) (result₁ added₁ result₂ added₂ : List ℕ)
-    → ComposesWith m result added work r result₁ added₁ → ComposesWith m result added work s result₂ added₂
+pub one-answer-with : (m : Maps) (result added work : List ℕ) (r s : Composed) (result₁ added₁ work₁ result₂ added₂ work₂ : List ℕ)
+    → ComposesWith m result added work r result₁ added₁ work₁ → ComposesWith m result added work s result₂ added₂ work₂
     → (r ≡ s) × ((result₁ ≡ result₂) × (added₁ ≡ added₂))
-one-answer-with m result added work r s result₁ added₁ result₂ added₂ a b =
+one-answer-with m result added work r s result₁ added₁ work₁ result₂ added₂ work₂ a b =
     (a .says ∙ sym (b .says), (a .wrote ∙ sym (b .wrote), a .listed ∙ sym (b .listed)))
 
 -- with as many places of working memory as it takes, the contract is the plain one's
-pub with-plain : (m : Maps) (result added : List ℕ) (work : ℕ) → workFor m ≤ work → (r : Composed) (result′ added′ : List ℕ)
-    → ComposesWith m result added work r result′ added′ → Composes m result added r result′ added′
-with-plain m result added work h r result′ added′ c =
-    let e = with-enough m (length result) (length added) work h in
+pub with-plain : (m : Maps) (result added work : List ℕ) → workFor m ≤ length work → (r : Composed) (result′ added′ work′ : List ℕ)
+    → ComposesWith m result added work r result′ added′ work′ → Composes m result added r result′ added′
+with-plain m result added work h r result′ added′ work′ c =
+    let e = with-enough m (length result) (length added) (length work) h in
     record { says = c .says ∙ e; wrote = rw e at (c .wrote); listed = rw e at (c .listed) }

@@ -38,39 +38,40 @@ module _ (m : Maps) (numbers room work : ℕ) where
   with-less e h = rw (eq-eqb (codeOf (composed m numbers room .code)) 0 e, h)
 
 -- ---- a whole answer, from its code
-module _ (m : Maps) (result added : List ℕ) (x : Composed) where
-  pub record Answers (r : Composed) (result′ added′ : List ℕ) : Type 0 where
+module _ (m : Maps) (result added work : List ℕ) (x : Composed) where
+  pub record Answers (r : Composed) (result′ added′ work′ : List ℕ) : Type 0 where
     pub says : r ≡ x
     pub wrote : result′ ≡ pick (eqb (codeOf (x .code)) 0) (over (resultOf m .tokens) result) result
     pub listed : added′ ≡ pick (eqb (codeOf (x .code)) 0) (onto (resultOf m .added) added) added
+    pub kept : (codeOf (x .code) ≡ 0 → ⊥) → work′ ≡ work
 
-  pub nothing : (codeOf (x .code) ≡ 0 → ⊥) → (r : Composed) → r ≡ x → Answers r result added
-  nothing n r e = record { says = e; wrote = rw (ne-eqb (codeOf (x .code)) 0 n); listed = rw (ne-eqb (codeOf (x .code)) 0 n) }
+  pub nothing : (codeOf (x .code) ≡ 0 → ⊥) → (r : Composed) → r ≡ x → Answers r result added work
+  nothing n r e = record { says = e; wrote = rw (ne-eqb (codeOf (x .code)) 0 n); listed = rw (ne-eqb (codeOf (x .code)) 0 n); kept = λ _. refl }
 
-module _ (indexed : Bool) (m : Maps) (result added : List ℕ) (work : ℕ) (c : Code) (ec : c ≡ composed m (length result) (length added) .code) where
+module _ (indexed : Bool) (m : Maps) (result added work : List ℕ) (c : Code) (ec : c ≡ composed m (length result) (length added) .code) where
   abbrev all : Composed
   all = composed m (length result) (length added)
 
   abbrev answer : Code → ℕ → Composed
   answer x n = record { code = x; added = n }
 
-  composes : (r : Composed) (result′ added′ : List ℕ) → Answers m result added (answerOf indexed m (length result) (length added) work) r result′ added′
-      → Composing indexed m result added work r result′ added′
-  composes r result′ added′ a = record { says = a .says; wrote = a .wrote; listed = a .listed }
+  composes : (r : Composed) (result′ added′ work′ : List ℕ) → Answers m result added work (answerOf indexed m (length result) (length added) (length work)) r result′ added′ work′
+      → Composing indexed m result added work r result′ added′ work′
+  composes r result′ added′ work′ a = record { says = a .says; wrote = a .wrote; listed = a .listed; kept = a .kept }
 
-  plain-if : (indexed ≡ true → composedWith m (length result) (length added) work ≡ all) → answerOf indexed m (length result) (length added) work ≡ all
+  plain-if : (indexed ≡ true → composedWith m (length result) (length added) (length work) ≡ all) → answerOf indexed m (length result) (length added) (length work) ≡ all
   plain-if f = by indexed refl
     where
-      by : (b : Bool) → indexed ≡ b → answerOf b m (length result) (length added) work ≡ all
+      by : (b : Bool) → indexed ≡ b → answerOf b m (length result) (length added) (length work) ≡ all
       by true e = f e
       by false e = refl
 
-  pub refusing : (codeOf c ≡ 0 → ⊥) → Composing indexed m result added work (refused c) result added
+  pub refusing : (codeOf c ≡ 0 → ⊥) → Composing indexed m result added work (refused c) result added work
   refusing n =
       let k : codeOf (all .code) ≡ 0 → ⊥ = rw ec at n in
-      let e : answerOf indexed m (length result) (length added) work ≡ all = plain-if (λ _. with-refused m (length result) (length added) work k) in
-      composes (refused c) result added
-      (rw e (nothing m result added all k (refused c) (ap refused ec ∙ refuses m (length result) (length added) k)))
+      let e : answerOf indexed m (length result) (length added) (length work) ≡ all = plain-if (λ _. with-refused m (length result) (length added) (length work) k) in
+      composes (refused c) result added work
+      (rw e (nothing m result added work all k (refused c) (ap refused ec ∙ refuses m (length result) (length added) k)))
 
   module _ (z : codeOf c ≡ 0) where
     opened : Opens m (length result) (length added) all
@@ -90,47 +91,47 @@ module _ (indexed : Bool) (m : Maps) (result added : List ℕ) (work : ℕ) (c :
       is-needed = omega (arith, en)
 
       -- too few places
-      pub short : (b : Bool) → b ≡ both indexed (ltb work needed) → b ≡ true → Composing indexed m result added work (refused (Code.NoRoom needed)) result added
+      pub short : (b : Bool) → b ≡ both indexed (ltb (length work) needed) → b ≡ true → Composing indexed m result added work (refused (Code.NoRoom needed)) result added work
       short b eb e = by indexed refl (sym eb ∙ e)
         where
-          by : (i : Bool) → indexed ≡ i → both i (ltb work needed) ≡ true → Composing indexed m result added work (refused (Code.NoRoom needed)) result added
+          by : (i : Bool) → indexed ≡ i → both i (ltb (length work) needed) ≡ true → Composing indexed m result added work (refused (Code.NoRoom needed)) result added work
           by false f q = let y : _≡_ {A = ℕ} 0 1 = cc in absurd (omega arith)
           by true f q =
-              let w : composedWith m (length result) (length added) work ≡ refused (Code.NoRoom needed)
-              = with-less m (length result) (length added) work (rw ec at z) (rw is-needed at q) ∙ rw is-needed in
-              let x : answerOf indexed m (length result) (length added) work ≡ refused (Code.NoRoom needed) = rw f w in
-              composes (refused (Code.NoRoom needed)) result added
-              (rw x (nothing m result added (refused (Code.NoRoom needed)) (λ y. omega (arith, y)) (refused (Code.NoRoom needed)) refl))
+              let w : composedWith m (length result) (length added) (length work) ≡ refused (Code.NoRoom needed)
+              = with-less m (length result) (length added) (length work) (rw ec at z) (rw is-needed at q) ∙ rw is-needed in
+              let x : answerOf indexed m (length result) (length added) (length work) ≡ refused (Code.NoRoom needed) = rw f w in
+              composes (refused (Code.NoRoom needed)) result added work
+              (rw x (nothing m result added work (refused (Code.NoRoom needed)) (λ y. omega (arith, y)) (refused (Code.NoRoom needed)) refl))
 
       -- enough
-      module _ (b : Bool) (eb : b ≡ both indexed (ltb work needed)) (e : b ≡ false) where
-        enough : indexed ≡ true → needed ≤ work
+      module _ (b : Bool) (eb : b ≡ both indexed (ltb (length work) needed)) (e : b ≡ false) where
+        enough : indexed ≡ true → needed ≤ length work
         enough f =
-            let q : ltb work needed ≡ false = (rw f at (sym eb)) ∙ e in
-            ltb-false work needed q
+            let q : ltb (length work) needed ≡ false = (rw f at (sym eb)) ∙ e in
+            ltb-false (length work) needed q
 
-        pub room : RoomIf indexed (m .innerNames) (m .outerNames) work
+        pub room : RoomIf indexed (m .innerNames) (m .outerNames) (length work)
         room f = omega (arith, enough f, en)
 
-        pub written : (r : ℕ) (result′ added′ : List ℕ) → Written (resultOf m) result added r result′ added′
-            → Composing indexed m result added work (record { code = c; added = r }) result′ added′
-        written r result′ added′ w =
-            let x : answerOf indexed m (length result) (length added) work ≡ all
-            = plain-if (λ f. with-enough m (length result) (length added) work (omega (arith, enough f, is-needed))) in
+        pub written : (r : ℕ) (result′ added′ work′ : List ℕ) → Written (resultOf m) result added r result′ added′
+            → Composing indexed m result added work (record { code = c; added = r }) result′ added′ work′
+        written r result′ added′ work′ w =
+            let x : answerOf indexed m (length result) (length added) (length work) ≡ all
+            = plain-if (λ f. with-enough m (length result) (length added) (length work) (omega (arith, enough f, is-needed))) in
             let d : all .code ≡ Code.Done = ap (λ (y : Composed). y .code) (opened .is) in
             let o : codeOf (all .code) ≡ 0 = ap codeOf d in
-            composes (record { code = c; added = r }) result′ added′
+            composes (record { code = c; added = r }) result′ added′ work′
             (rw x (record {
               says = ap₂ answer (ec ∙ d) (w .counts) ∙ sym (opened .is);
               wrote = w .wrote ∙ rw (eq-eqb (codeOf (all .code)) 0 o);
               listed = w .listed ∙ rw (eq-eqb (codeOf (all .code)) 0 o);
+              kept = λ n. absurd (n o);
             }))
 
 -- ---- either entry
-pub plain : (m : Maps) (result added : List ℕ) (work : ℕ) (r : Composed) (result′ added′ : List ℕ) → Composing false m result added work r result′ added′
-    → Composes m result added r result′ added′
-plain m result added work r result′ added′ c = record { says = c .says; wrote = c .wrote; listed = c .listed }
+module _ (m : Maps) (result added work : List ℕ) (r : Composed) (result′ added′ work′ : List ℕ) where
+  pub plain : Composing false m result added work r result′ added′ work′ → Composes m result added r result′ added′
+  plain c = record { says = c .says; wrote = c .wrote; listed = c .listed }
 
-pub with-work : (m : Maps) (result added : List ℕ) (work : ℕ) (r : Composed) (result′ added′ : List ℕ) → Composing true m result added work r result′ added′
-    → ComposesWith m result added work r result′ added′
-with-work m result added work r result′ added′ c = record { says = c .says; wrote = c .wrote; listed = c .listed }
+  pub with-work : Composing true m result added work r result′ added′ work′ → ComposesWith m result added work r result′ added′ work′
+  with-work c = record { says = c .says; wrote = c .wrote; listed = c .listed; kept = c .kept }

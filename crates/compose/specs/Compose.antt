@@ -108,8 +108,9 @@ composedWith m numbers room work =
     pick (both (eqb (codeOf (composed m numbers room .code)) 0) (ltb work (workFor m))) (refused (Code.NoRoom (workFor m)))
     (composed m numbers room)
 
--- the answer, and what the lent result and the lent list hold then; what the working memory holds is left open
-pub record ComposesWith (m : Maps) (result added : List ℕ) (work : ℕ) (r : Composed) (result′ added′ : List ℕ) : Type 0 where
-  pub says : r ≡ composedWith m (length result) (length added) work
-  pub wrote : result′ ≡ pick (eqb (codeOf (composedWith m (length result) (length added) work .code)) 0) (over (resultOf m .tokens) result) result
-  pub listed : added′ ≡ pick (eqb (codeOf (composedWith m (length result) (length added) work .code)) 0) (onto (resultOf m .added) added) added
+-- the answer, and what the lent result and the lent list hold then; the working memory is as it was where it is refused, and else left open
+pub record ComposesWith (m : Maps) (result added work : List ℕ) (r : Composed) (result′ added′ work′ : List ℕ) : Type 0 where
+  pub says : r ≡ composedWith m (length result) (length added) (length work)
+  pub wrote : result′ ≡ pick (eqb (codeOf (composedWith m (length result) (length added) (length work) .code)) 0) (over (resultOf m .tokens) result) result
+  pub listed : added′ ≡ pick (eqb (codeOf (composedWith m (length result) (length added) (length work) .code)) 0) (onto (resultOf m .added) added) added
+  pub kept : (codeOf (composedWith m (length result) (length added) (length work) .code) ≡ 0 → ⊥) → work′ ≡ work

@@ -100,7 +100,8 @@ pub record Written (made : Result) (result added : List ℕ) (r : ℕ) (result�
 abbrev pub answerOf : Bool → Maps → ℕ → ℕ → ℕ → Composed
 answerOf indexed m numbers room work = pick indexed (composedWith m numbers room work) (composed m numbers room)
 
-pub record Composing (indexed : Bool) (m : Maps) (result added : List ℕ) (work : ℕ) (r : Composed) (result′ added′ : List ℕ) : Type 0 where
-  pub says : r ≡ answerOf indexed m (length result) (length added) work
-  pub wrote : result′ ≡ pick (eqb (codeOf (answerOf indexed m (length result) (length added) work .code)) 0) (over (resultOf m .tokens) result) result
-  pub listed : added′ ≡ pick (eqb (codeOf (answerOf indexed m (length result) (length added) work .code)) 0) (onto (resultOf m .added) added) added
+pub record Composing (indexed : Bool) (m : Maps) (result added work : List ℕ) (r : Composed) (result′ added′ work′ : List ℕ) : Type 0 where
+  pub says : r ≡ answerOf indexed m (length result) (length added) (length work)
+  pub wrote : result′ ≡ pick (eqb (codeOf (answerOf indexed m (length result) (length added) (length work) .code)) 0) (over (resultOf m .tokens) result) result
+  pub listed : added′ ≡ pick (eqb (codeOf (answerOf indexed m (length result) (length added) (length work) .code)) 0) (onto (resultOf m .added) added) added
+  pub kept : (codeOf (answerOf indexed m (length result) (length added) (length work) .code) ≡ 0 → ⊥) → work′ ≡ work

@@ -327,7 +327,7 @@ fn composing(
     indexed: bool,
     work: &mut [u32],
 ) -> Composed
-    ensures { λ r. ⌜ Composing indexed (mapsOf (now (outer .entry)) «outer_sources» (now («outer_names» .entry)) (now («outer_ends» .entry)) (now (inner .entry)) (now («inner_names» .entry)) (now («inner_ends» .entry))) (now (result .entry)) (now (added .entry)) (length (now (work .entry))) r (now (result .exit)) (now (added .exit)) ⌝ }
+    ensures { λ r. ⌜ Composing indexed (mapsOf (now (outer .entry)) «outer_sources» (now («outer_names» .entry)) (now («outer_ends» .entry)) (now (inner .entry)) (now («inner_names» .entry)) (now («inner_ends» .entry))) (now (result .entry)) (now (added .entry)) (now (work .entry)) r (now (result .exit)) (now (added .exit)) (now (work .exit)) ⌝ }
 {
     let code = refusal(
         outer,
@@ -407,7 +407,7 @@ pub fn compose_with(
     added: &mut [u32],
     work: &mut [u32],
 ) -> Composed
-    ensures { λ r. ⌜ ComposesWith (mapsOf (now (outer .entry)) «outer_sources» (now («outer_names» .entry)) (now («outer_ends» .entry)) (now (inner .entry)) (now («inner_names» .entry)) (now («inner_ends» .entry))) (now (result .entry)) (now (added .entry)) (length (now (work .entry))) r (now (result .exit)) (now (added .exit)) ⌝ }
+    ensures { λ r. ⌜ ComposesWith (mapsOf (now (outer .entry)) «outer_sources» (now («outer_names» .entry)) (now («outer_ends» .entry)) (now (inner .entry)) (now («inner_names» .entry)) (now («inner_ends» .entry))) (now (result .entry)) (now (added .entry)) (now (work .entry)) r (now (result .exit)) (now (added .exit)) (now (work .exit)) ⌝ }
 {
     composing(
         outer,

@@ -8,7 +8,6 @@ use records::Answer;
 use token::Token;
 use token::TokenChunk;
 ghost use mathlib.Core.Path.{_≡_};
-ghost use lib.ListN.{length};
 ghost use Rattle.value.specs.declared.Mode.{Mode};
 ghost use Rattle.names.specs.Names.{nameList, placeOf};
 ghost use Rattle.decode.specs.Mapping.{byDefault, Decodes};
@@ -288,7 +287,7 @@ pub extern "C" fn pgk_compose_with(
     added: &mut [u32],
     work: &mut [u32],
 ) -> ComposedOut
-    ensures { λ r. ⌜ Goes (λ m. ComposesWith (mapsOf (now (outer .entry)) «outer_sources» (now («outer_names» .entry)) (now («outer_ends» .entry)) (now (inner .entry)) (now («inner_names» .entry)) (now («inner_ends» .entry))) (now (result .entry)) (now (added .entry)) (length (now (work .entry))) m (now (result .exit)) (now (added .exit))) composedOut r ⌝ }
+    ensures { λ r. ⌜ Goes (λ m. ComposesWith (mapsOf (now (outer .entry)) «outer_sources» (now («outer_names» .entry)) (now («outer_ends» .entry)) (now (inner .entry)) (now («inner_names» .entry)) (now («inner_ends» .entry))) (now (result .entry)) (now (added .entry)) (now (work .entry)) m (now (result .exit)) (now (added .exit)) (now (work .exit))) composedOut r ⌝ }
 {
     composed_out(compose::compose_with(
         outer,

@@ -141,20 +141,21 @@ one-compose m result added r s x y v w a b =
     let e = compose.one-answer m result added (a .inner) (b .inner) x v y w (a .holds) (b .holds) in
     (a .says ∙ ap composedOut (e .0) ∙ sym (b .says), e .1)
 
--- pgk_compose_with: one answer, one result and one added list; what the working memory holds then is left open
-pub one-compose-with : (m : Maps) (result added : List ℕ) (work : ℕ) (r s : ComposedOut) (x y v w : List ℕ)
-    → Goes (λ o. ComposesWith m result added work o x v) composedOut r → Goes (λ o. ComposesWith m result added work o y w) composedOut s
+-- pgk_compose_with: one answer, one result and one added list. What the working memory holds then is left open where it is done; a
+-- refusal leaves it as it was, by the contract
+pub one-compose-with : (m : Maps) (result added work : List ℕ) (r s : ComposedOut) (x y v w p q : List ℕ)
+    → Goes (λ o. ComposesWith m result added work o x v p) composedOut r → Goes (λ o. ComposesWith m result added work o y w q) composedOut s
     → (r ≡ s) × ((x ≡ y) × (v ≡ w))
-one-compose-with m result added work r s x y v w a b =
-    let e = compose.one-answer-with m result added work (a .inner) (b .inner) x v y w (a .holds) (b .holds) in
+one-compose-with m result added work r s x y v w p q a b =
+    let e = compose.one-answer-with m result added work (a .inner) (b .inner) x v p y w q (a .holds) (b .holds) in
     (a .says ∙ ap composedOut (e .0) ∙ sym (b .says), e .1)
 
 -- and with as many places of it as it takes, they are those of pgk_compose
-pub with-and-without : (m : Maps) (result added : List ℕ) (work : ℕ) → workFor m ≤ work → (r s : ComposedOut) (x y v w : List ℕ)
-    → Goes (λ o. Composes m result added o x v) composedOut r → Goes (λ o. ComposesWith m result added work o y w) composedOut s
+pub with-and-without : (m : Maps) (result added work : List ℕ) → workFor m ≤ length work → (r s : ComposedOut) (x y v w q : List ℕ)
+    → Goes (λ o. Composes m result added o x v) composedOut r → Goes (λ o. ComposesWith m result added work o y w q) composedOut s
     → (r ≡ s) × ((x ≡ y) × (v ≡ w))
-with-and-without m result added work h r s x y v w a b =
-    let c = compose.with-plain m result added work h (b .inner) y w (b .holds) in
+with-and-without m result added work h r s x y v w q a b =
+    let c = compose.with-plain m result added work h (b .inner) y w q (b .holds) in
     let e = compose.one-answer m result added (a .inner) (b .inner) x v y w (a .holds) c in
     (a .says ∙ ap composedOut (e .0) ∙ sym (b .says), e .1)
 

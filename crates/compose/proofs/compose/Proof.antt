@@ -17,7 +17,7 @@ same-length-2 : tie.Need-same-length-2
 same-length-2 c = search needs
 
 returns : tie.Need-returns
-returns c = plain _ _ _ _ _ _ _ (c .before .before .before .before .before .composing .ensures)
+returns c = plain _ _ _ _ _ _ _ _ (c .before .before .before .before .before .composing .ensures)
 
 pub compose-spec : {M : Type 1} → statement M
 compose-spec =

@@ -17,7 +17,7 @@ same-length-3 : tie.Need-same-length-3
 same-length-3 c = search needs
 
 returns : tie.Need-returns
-returns c = with-work _ _ _ _ _ _ _ (c .before .before .before .before .before .before .composing .ensures)
+returns c = with-work _ _ _ _ _ _ _ _ (c .before .before .before .before .before .before .composing .ensures)
 
 pub compose-with-spec : {M : Type 1} → statement M
 compose-with-spec =

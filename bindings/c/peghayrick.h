@@ -1,4 +1,4 @@
-/* Peghayrick 0.8.0: the mapping core of source maps, for C99 and later and C++11 and later.
+/* Peghayrick 0.9.0: the mapping core of source maps, for C99 and later and C++11 and later.
  *
  * Link with libpeghayrick.a (x86-64 Linux). The archive needs one symbol from outside, memset.
  *
@@ -40,7 +40,8 @@
  * rest of a refused answer is not a result.
  *
  * Order of use: pgk_table_size, pgk_decode, then pgk_lookup or, for many positions, pgk_lookup_many_quick;
- * bindings/examples/stop.c does it.
+ * bindings/examples/stop.c does it. For a map and the map of its input: decode both, then pgk_compose_with, pgk_lookup and
+ * pgk_name_of; bindings/examples/chain.c does it.
  *
  * docs/RULES.md has the exact rules, docs/TRUST.md what of this is proved, what is tested and what is trusted.
  */
@@ -55,8 +56,8 @@ extern "C" {
 #endif
 
 /* The version of this header: major * 1000000 + minor * 1000 + patch. pgk_version() has that of the archive. */
-#define PGK_VERSION 8000u
-#define PGK_VERSION_TEXT "0.8.0"
+#define PGK_VERSION 9000u
+#define PGK_VERSION_TEXT "0.9.0"
 
 /* As an id, a segment or the index of a token that was looked up: none. */
 #define PGK_NONE 4294967295u
@@ -73,7 +74,7 @@ extern "C" {
 #define PGK_BAD_NAME_REFERENCE 5u    /* the new name id, modulo 2^32 */
 #define PGK_WIDE_VALUE 6u            /* the field, 0 to 4, whose value or sum is too wide (checked mode only) */
 #define PGK_TABLE_FULL 7u            /* the table has too few places */
-#define PGK_NO_ROOM 8u               /* places needed */
+#define PGK_NO_ROOM 8u               /* places needed: bytes of out, or entries of found, added or work */
 #define PGK_LINE_GOES_BACK 9u        /* index of the first such token */
 #define PGK_BAD_CHUNK 10u            /* not start <= end <= token count */
 #define PGK_BAD_TABLE 11u            /* not whole tokens, or too many */
@@ -140,6 +141,14 @@ static inline pgk_chunk pgk_first_chunk(uint32_t count) {
     pgk_chunk chunk = { 0, 0, 0, 0, 0, 0, 0, 0 };
     chunk.end = count;
     return chunk;
+}
+
+/* How many places of working memory pgk_compose_with needs, by the counts of the names of inner and of outer: two for each
+ * inner name and three for each outer one, or SIZE_MAX where that does not fit. A place is a uint32_t. Above 2147483647 names
+ * in a list that call is PGK_BAD_NAMES, however much is lent. */
+static inline size_t pgk_work_places(size_t inner_ends_len, size_t outer_ends_len) {
+    if (outer_ends_len > SIZE_MAX / 3 || inner_ends_len > (SIZE_MAX - 3 * outer_ends_len) / 2) return SIZE_MAX;
+    return 2 * inner_ends_len + 3 * outer_ends_len;
 }
 
 /* The version of the archive. Where it is not PGK_VERSION, header and archive do not belong together: use neither. */
@@ -261,17 +270,35 @@ pgk_answer pgk_lookup_many_quick(const uint32_t *table, size_t table_len, const 
  *   PGK_NO_ROOM                added is shorter than outer_ends; the number is the length needed
  * Places past the tokens and past the added names are kept.
  *
- * Cost: one lookup in inner for each outer token with a source, and for each outer name taken a search of the inner
- * names, so the time grows with the product of both tables. 8000 over 8000 tokens take 63 times the time of the
- * crate oxc_sourcemap; 94520 over 63264 tokens of two real maps took 16 s. Compose where the bundle is built and
- * not while a run waits. */
+ * Cost: it looks once whether inner is sorted by line and then by column, as pgk_lookup_many_quick does. If so, each outer
+ * token with a source halves inner, near the place of the one before it first, so the time is near-linear in both tables. If
+ * not, each reads the line of every inner token, so the time grows with the product of both: compose such a map where the
+ * bundle is built and not while a run waits. Each token that takes its outer name searches the inner names and the added
+ * ones, one by one, unless the name taken before was the same: where names are many, pgk_compose_with is quicker. */
 pgk_composed pgk_compose(const uint32_t *outer, size_t outer_len, uint32_t outer_sources,
     const uint8_t *outer_names, size_t outer_names_len, const size_t *outer_ends, size_t outer_ends_len,
     const uint32_t *inner, size_t inner_len,
     const uint8_t *inner_names, size_t inner_names_len, const size_t *inner_ends, size_t inner_ends_len,
     uint32_t *result, size_t result_len, uint32_t *added, size_t added_len);
 
-/* The name of a result id. Hand in the added names only, not the whole list that was lent to pgk_compose.
+/* The same with lent working memory, in which names are found by an index that is made once a call. The arguments of
+ * pgk_compose come first, and on all of them the code, the number, the count of added names, result and added are the same.
+ * There is one refusal more, after all others:
+ *   PGK_NO_ROOM                work has fewer than pgk_work_places(inner_ends_len, outer_ends_len) places; that is the number
+ * The number tells which list is too short: for added it is outer_ends_len, as above, and for work it is larger.
+ * work may hold anything before the call, and may be longer than needed. A refusal leaves it as it was. What it holds after a
+ * call that is done is left open; it may be lent to the next call as it is.
+ *
+ * Cost: that of pgk_compose but for the names. Each inner name is entered into the index once a call, and each outer name
+ * that is taken is looked for once a call, so the time hardly depends on how many names there are. Only names that were
+ * chosen to meet in the index are compared one by one. With few names pgk_compose does as well, and needs no memory. */
+pgk_composed pgk_compose_with(const uint32_t *outer, size_t outer_len, uint32_t outer_sources,
+    const uint8_t *outer_names, size_t outer_names_len, const size_t *outer_ends, size_t outer_ends_len,
+    const uint32_t *inner, size_t inner_len,
+    const uint8_t *inner_names, size_t inner_names_len, const size_t *inner_ends, size_t inner_ends_len,
+    uint32_t *result, size_t result_len, uint32_t *added, size_t added_len, uint32_t *work, size_t work_len);
+
+/* The name of a result id. Hand in the added names only, not the whole list that was lent to be filled.
  * Nothing is refused: found 0 for an unknown id or an unsound name list. */
 pgk_name pgk_name_of(const uint8_t *inner_names, size_t inner_names_len, const size_t *inner_ends, size_t inner_ends_len,
     const uint8_t *outer_names, size_t outer_names_len, const size_t *outer_ends, size_t outer_ends_len,

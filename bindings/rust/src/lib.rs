@@ -40,7 +40,7 @@
 //!
 //! # Segments
 //! A token's [`segment`](Token::segment) says which piece of text gave it: the bytes from that offset on, up to the next `,`
-//! or `;` or the text's end. Decoding sets it, [`translate`] keeps it, [`compose`] takes the outer token's; the writer, the
+//! or `;` or the text's end. Decoding sets it, [`translate`] keeps it, composing takes the outer token's; the writer, the
 //! lookup and the premises pass it over, and on input it may be any number. It is an offset into the text that the token was
 //! decoded from, and no table says which that was. Joined tables hold offsets into the text of each part, a composed one
 //! into the outer map's text, and none of them into the text that [`serialize_mappings`] writes. Keep those texts, and which
@@ -55,10 +55,13 @@
 //! A lookup reads the line of every token, 0.4 to 1.2 ns each. [`lookup_many`] reads the table once for all of its positions.
 //! [`lookup_many_quick`] has the same answers: on a sorted table it costs little more than one pass over it, and it is the one
 //! to call unless the table is known not to be sorted.
-//! [`compose`] does one lookup for each outer token with a source and a search of the inner names for each outer name that it
-//! takes, so its time grows with the product of both tables: 8,000 over 8,000 tokens take 63 times the time of the crate
-//! oxc_sourcemap, and 94,520 over 63,264 tokens of two real maps took 16 s. Compose where the bundle is built and not while a run
-//! waits.
+//! [`compose`] and [`compose_with`] look once whether the inner table is sorted by line and then by column. If so, each outer
+//! token with a source halves it, near the place of the one before it first, so the time is near-linear in both tables. If not,
+//! each reads the line of every inner token, so the time grows with the product of both: compose such a map where the bundle is
+//! built and not while a run waits. [`compose`] searches the inner names and the added ones, one by one, for each token that
+//! takes its outer name, unless the name taken before was the same. [`compose_with`] enters each inner name into an index in lent
+//! memory once a call, and looks for each outer name that is taken once a call, so its time hardly depends on how many names
+//! there are; only names that were chosen to meet in the index are compared one by one.
 //!
 //! # Refusals
 //! Every input is answered, a value or a [`Refusal`]. A refused decode keeps the tokens before the refused segment,
@@ -84,7 +87,7 @@ use token::pairs_of;
 pub use token::{table_of, table_of_mut, tokens_of, written, Position, Token, TokenChunk, NONE, WIDTH};
 
 /// The version of this crate: major × 1,000,000 + minor × 1,000 + patch.
-pub const VERSION: u64 = 8000;
+pub const VERSION: u64 = 9000;
 
 /// The version of the archive that was linked. Where it is not [`VERSION`], `PEGHAYRICK_LIB_DIR` named another version's.
 ///
@@ -528,7 +531,8 @@ pub struct Composed {
 /// ones: `added` takes, in order, the ids of the outer names that were added. [`name_of`] reads them. Its segment is the outer
 /// token's, also where it is left without a source: an offset into the text of `outer`, and never into that of `inner`.
 ///
-/// The time grows with the product of both tables: see the crate's page, under Cost.
+/// With a sorted inner table the time is near-linear in both tables; where names are many, [`compose_with`] is quicker. See the
+/// crate's page, under Cost.
 ///
 /// ```
 /// use peghayrick::{compose, name_of, table_of, table_of_mut, Names, Refusal, Token};
@@ -582,13 +586,120 @@ pub fn compose(
             added.len(),
         )
     };
+    composed(c)
+}
+
+/// How many places of working memory [`compose_with`] needs for these names: two for each inner name and three for each outer
+/// one. The inner names come first, as in [`name_of`].
+///
+/// ```
+/// use peghayrick::{work_places, Names};
+/// let inner = Names { text: b"spin", ends: &[4] };
+/// let outer = Names { text: b"washdry", ends: &[4, 7] };
+/// assert_eq!(work_places(inner, outer), 2 + 3 * 2);
+/// assert_eq!(work_places(Names::default(), Names::default()), 0);
+/// ```
+pub const fn work_places(inner_names: Names<'_>, outer_names: Names<'_>) -> usize {
+    // It fits: no slice has more than isize::MAX bytes, and an end takes eight.
+    2 * inner_names.ends.len() + 3 * outer_names.ends.len()
+}
+
+/// [`compose`] with lent working memory, in which names are found by an index that is made once a call. On every input it
+/// returns the same and leaves the same in `result` and `added`, as long as [`work_places`] places are lent.
+///
+/// `work` may hold anything before the call, and may be longer than needed. What it holds after a call that is done is left
+/// open; it may be lent to the next call as it is.
+///
+/// This is the one to call where names are many: its time hardly depends on their number. With few names [`compose`] does as
+/// well, and needs no memory.
+///
+/// ```
+/// use peghayrick::*;
+///
+/// /// The tokens of `outer` over `inner`, and for each its name.
+/// fn composed<'a>(
+///     outer: &[Token],
+///     outer_names: Names<'a>,
+///     inner: &[Token],
+///     inner_names: Names<'a>,
+/// ) -> Result<Vec<(Token, Option<&'a [u8]>)>, Refusal> {
+///     let mut result = vec![Token::default(); outer.len()];
+///     let mut added = vec![0; outer_names.ends.len()];
+///     let mut work = vec![0; work_places(inner_names, outer_names)];
+///     let (outer, inner, places) = (table_of(outer), table_of(inner), table_of_mut(&mut result));
+///     let done = compose_with(outer, 1, outer_names, inner, inner_names, places, &mut added, &mut work)?;
+///     let name = |token: &Token| token.get_name_id().and_then(|id| name_of(inner_names, outer_names, &added[..done.added], id));
+///     Ok(result.iter().map(|token| (*token, name(token))).collect())
+/// }
+///
+/// let outer_names = Names { text: b"spinwash", ends: &[4, 8] };
+/// let inner_names = Names { text: b"drywash", ends: &[3, 7] };
+/// let outer = [Token::new(0, 0, 5, 0, Some(0), Some(0)), Token::new(0, 9, 5, 8, Some(0), Some(1))];
+/// let inner = [Token::new(5, 0, 20, 2, Some(1), None)];
+///
+/// // Of the outer names, spin is added behind the two inner names, and wash is an inner name too.
+/// let spin = (Token::new(0, 0, 20, 2, Some(1), Some(2)), Some(&b"spin"[..]));
+/// let wash = (Token::new(0, 9, 20, 2, Some(1), Some(1)), Some(&b"wash"[..]));
+/// assert_eq!(composed(&outer, outer_names, &inner, inner_names), Ok(vec![spin, wash]));
+///
+/// // Too little working memory: nothing is written, and the refusal says how much is needed.
+/// let (mut result, mut added, mut work) = ([0; 2 * WIDTH], [0; 2], [0; 9]);
+/// let (outer, inner) = (table_of(&outer), table_of(&inner));
+/// let refusal = compose_with(outer, 1, outer_names, inner, inner_names, &mut result, &mut added, &mut work);
+/// assert_eq!(refusal, Err(Refusal::NoRoom { needed: 10 }));
+/// ```
+///
+/// # Errors
+/// As [`compose`], and after all of these [`NoRoom`](Refusal::NoRoom) if `work` has fewer than [`work_places`] places, with that
+/// number. The number tells which list is too short: for `added` it is the count of outer names, and for `work` it is larger. A
+/// refusal leaves `work` as it was.
+// One more than clippy's seven: what compose takes, in its order, and the working memory.
+#[allow(clippy::too_many_arguments)]
+pub fn compose_with(
+    outer: &[u32],
+    outer_sources: u32,
+    outer_names: Names<'_>,
+    inner: &[u32],
+    inner_names: Names<'_>,
+    result: &mut [u32],
+    added: &mut [u32],
+    work: &mut [u32],
+) -> Result<Composed, Refusal> {
+    // SAFETY: each slice is lent with its own pointer and length for the call; the three that are written overlap nothing.
+    let c = unsafe {
+        raw::pgk_compose_with(
+            outer.as_ptr(),
+            outer.len(),
+            outer_sources,
+            outer_names.text.as_ptr(),
+            outer_names.text.len(),
+            outer_names.ends.as_ptr(),
+            outer_names.ends.len(),
+            inner.as_ptr(),
+            inner.len(),
+            inner_names.text.as_ptr(),
+            inner_names.text.len(),
+            inner_names.ends.as_ptr(),
+            inner_names.ends.len(),
+            result.as_mut_ptr(),
+            result.len(),
+            added.as_mut_ptr(),
+            added.len(),
+            work.as_mut_ptr(),
+            work.len(),
+        )
+    };
+    composed(c)
+}
+
+fn composed(c: raw::Composed) -> Result<Composed, Refusal> {
     match c.code {
         0 => Ok(Composed { added: c.added as usize }),
         code => Err(Refusal::new(code, c.number, None)),
     }
 }
 
-/// The name of a result id of [`compose`], a part of one of the two texts; `None` for an id that does not
+/// The name of a result id of [`compose`] or [`compose_with`], a part of one of the two texts; `None` for an id that does not
 /// exist or a name list that is broken. Hand in the added names only, not the whole list that was lent.
 ///
 /// ```

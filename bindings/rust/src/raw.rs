@@ -125,6 +125,27 @@ extern "C" {
         added: *mut u32,
         added_len: usize,
     ) -> Composed;
+    pub fn pgk_compose_with(
+        outer: *const u32,
+        outer_len: usize,
+        outer_sources: u32,
+        outer_names: *const u8,
+        outer_names_len: usize,
+        outer_ends: *const usize,
+        outer_ends_len: usize,
+        inner: *const u32,
+        inner_len: usize,
+        inner_names: *const u8,
+        inner_names_len: usize,
+        inner_ends: *const usize,
+        inner_ends_len: usize,
+        result: *mut u32,
+        result_len: usize,
+        added: *mut u32,
+        added_len: usize,
+        work: *mut u32,
+        work_len: usize,
+    ) -> Composed;
     pub fn pgk_name_of(
         inner_names: *const u8,
         inner_names_len: usize,

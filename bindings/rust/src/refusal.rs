@@ -73,10 +73,11 @@ pub enum Refusal {
     },
     /// 7: the table has too few places.
     TableFull {
-        /// Where the decode stopped; `None` from [`compose`](crate::compose).
+        /// Where the decode stopped; `None` from [`compose`](crate::compose) and [`compose_with`](crate::compose_with).
         at: Option<Stop>,
     },
-    /// 8: the output, the list of added names or the list of found indices is too short.
+    /// 8: the output, the list of added names, the working memory of [`compose_with`](crate::compose_with) or the list of found
+    /// indices is too short.
     NoRoom {
         /// How many places are needed.
         needed: u64,

@@ -1,4 +1,5 @@
-/* The size, alignment and field offsets of each struct of the header, its constants and its words, a line each. */
+/* The size, alignment and field offsets of each struct of the header, its constants, the places of working memory and its words, a
+ * line each. */
 #include <stdio.h>
 #include <stddef.h>
 #include "peghayrick.h"
@@ -51,6 +52,7 @@ int main(void) {
     TYPE(size_t);
     printf("PGK_NONE %llu\n", (unsigned long long)PGK_NONE);
     printf("PGK_WIDTH %u\n", PGK_WIDTH);
+    printf("pgk_work_places %zu %zu\n", pgk_work_places(1, 0), pgk_work_places(0, 1));
     printf("PGK_VERSION %u\n", PGK_VERSION);
     printf("PGK_VERSION_TEXT %s\n", PGK_VERSION_TEXT);
     CODE(PGK_VLQ_LEFTOVER);

@@ -2,7 +2,7 @@
 //! names what it printed in `PEGHAYRICK_LAYOUT`; without that, it is built here.
 
 use core::mem::{align_of, offset_of, size_of};
-use peghayrick::{raw, Position, Refusal, Stop, Token, TokenChunk, NONE, VERSION, WIDTH};
+use peghayrick::{raw, work_places, Names, Position, Refusal, Stop, Token, TokenChunk, NONE, VERSION, WIDTH};
 use std::fmt::Write;
 use std::path::Path;
 use std::process::Command;
@@ -34,6 +34,8 @@ fn rust() -> String {
     layout!(out, "size_t", usize:);
     writeln!(out, "PGK_NONE {NONE}").unwrap();
     writeln!(out, "PGK_WIDTH {WIDTH}").unwrap();
+    let (none, one) = (Names::default(), Names { text: b"", ends: &[0] });
+    writeln!(out, "pgk_work_places {} {}", work_places(one, none), work_places(none, one)).unwrap();
     writeln!(out, "PGK_VERSION {VERSION}").unwrap();
     writeln!(out, "PGK_VERSION_TEXT {}", env!("CARGO_PKG_VERSION")).unwrap();
     for refusal in refusals() {

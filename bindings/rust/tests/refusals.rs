@@ -175,25 +175,38 @@ fn odd_lists() {
     }
 }
 
+/// By both calls; with working memory, enough or none, each of these refusals comes before its own.
 #[test]
 fn composing() {
     let outer = [Token::new(0, 0, 0, 0, Some(0), Some(0))];
     let outer = table_of(&outer);
     let names = Names { text: b"ab", ends: &[1, 2] };
     let none = Names::default();
-    let mut result = [7u32; WIDTH + 1];
-    let mut added = [7u32; 2];
-    let mut call = |outer: &[u32], sources, names, inner: &[u32], places: usize, room: usize| {
-        compose(outer, sources, names, inner, none, &mut result[..places], &mut added[..room]).unwrap_err()
-    };
-    holds(call(outer, 2, names, outer, WIDTH, 2), Refusal::MoreThanOneSource, 13, 0, None, "more than one source");
-    holds(call(&outer[1..], 1, names, outer, WIDTH, 2), Refusal::BadTable, 11, 0, None, "whole tokens");
-    holds(call(outer, 1, names, &outer[1..], WIDTH, 2), Refusal::BadTable, 11, 0, None, "whole tokens");
-    holds(call(outer, 1, Names { text: b"ab", ends: &[1, 3] }, outer, WIDTH, 2), Refusal::BadNames, 14, 0, None, "name list");
-    holds(call(outer, 1, Names { text: b"ab", ends: &[2, 1] }, outer, WIDTH, 2), Refusal::BadNames, 14, 0, None, "name list");
-    holds(call(outer, 1, names, outer, WIDTH - 1, 2), Refusal::TableFull { at: None }, 7, 0, None, "outer table");
-    holds(call(outer, 1, names, outer, WIDTH, 1), Refusal::NoRoom { needed: 2 }, 8, 2, None, "2 places");
-    assert_eq!((result, added), ([7; WIDTH + 1], [7; 2]));
+    for places in [None, Some(6), Some(0)] {
+        let (mut result, mut added, mut work) = ([7u32; WIDTH + 1], [7u32; 2], [7u32; 6]);
+        let mut call = |outer: &[u32], sources, names, inner: &[u32], inner_names, numbers: usize, room: usize| {
+            let (result, added) = (&mut result[..numbers], &mut added[..room]);
+            match places {
+                None => compose(outer, sources, names, inner, inner_names, result, added),
+                Some(places) => compose_with(outer, sources, names, inner, inner_names, result, added, &mut work[..places]),
+            }
+            .unwrap_err()
+        };
+        let more = call(outer, 2, names, outer, none, WIDTH, 2);
+        holds(more, Refusal::MoreThanOneSource, 13, 0, None, "more than one source");
+        holds(call(&outer[1..], 1, names, outer, none, WIDTH, 2), Refusal::BadTable, 11, 0, None, "whole tokens");
+        holds(call(outer, 1, names, &outer[1..], none, WIDTH, 2), Refusal::BadTable, 11, 0, None, "whole tokens");
+        for bad in [Names { text: b"ab", ends: &[1, 3] }, Names { text: b"ab", ends: &[2, 1] }] {
+            holds(call(outer, 1, bad, outer, none, WIDTH, 2), Refusal::BadNames, 14, 0, None, "name list");
+            holds(call(outer, 1, names, outer, bad, WIDTH, 2), Refusal::BadNames, 14, 0, None, "name list");
+        }
+        holds(call(outer, 1, names, outer, none, WIDTH - 1, 2), Refusal::TableFull { at: None }, 7, 0, None, "outer table");
+        for room in 0..2 {
+            holds(call(outer, 1, names, outer, none, WIDTH, room), Refusal::NoRoom { needed: 2 }, 8, 2, None, "2 places");
+        }
+        assert_eq!((result, added, work), ([7; WIDTH + 1], [7; 2], [7; 6]));
+    }
+    let (mut result, mut added) = ([7u32; WIDTH + 1], [7u32; 2]);
     let done = compose(outer, 1, names, outer, none, &mut result, &mut added);
     assert_eq!(done, Ok(Composed { added: 0 }));
     assert_eq!(result, [0, 0, 0, 0, 0, 0, NONE, 7]);
@@ -201,6 +214,44 @@ fn composing() {
     assert_eq!(name_of(none, names, &[1], 0), Some(&b"b"[..]));
     assert_eq!(name_of(none, names, &[2], 0), None);
     assert_eq!(name_of(none, names, &[1], NONE), None);
+}
+
+/// Too little working memory comes last, by the places that are needed: two for each inner name and three for each outer one.
+#[test]
+fn working_memory() {
+    let (outer, inner) = ([Token::new(0, 0, 0, 0, Some(0), Some(0))], [Token::new(0, 0, 2, 3, Some(0), None)]);
+    let (none, one, two) = (Names::default(), Names { text: b"a", ends: &[1] }, Names { text: b"ab", ends: &[1, 2] });
+    for (inner_names, outer_names, needed) in [(none, one, 3), (one, none, 2), (one, one, 5), (two, one, 7), (one, two, 8)] {
+        assert_eq!(work_places(inner_names, outer_names), needed);
+        let (mut result, mut added, mut work) = ([7u32; WIDTH + 1], [7u32; 3], [7u32; 12]);
+        let mut call = |room: usize, places: usize| {
+            let (outer, inner, added, work) = (table_of(&outer), table_of(&inner), &mut added[..room], &mut work[..places]);
+            compose_with(outer, 1, outer_names, inner, inner_names, &mut result, added, work)
+        };
+        let count = outer_names.ends.len();
+        for places in 0..needed {
+            let short = Refusal::NoRoom { needed: needed as u64 };
+            holds(call(count, places).unwrap_err(), short, 8, needed as u64, None, "lend so many and call again");
+            // The places for the added names come first.
+            if count > 0 {
+                assert_eq!(call(count - 1, places), Err(Refusal::NoRoom { needed: count as u64 }));
+            }
+        }
+        assert!(call(count, needed).is_ok() && call(3, needed + 1).is_ok() && call(3, 12).is_ok());
+        assert_eq!(result[WIDTH], 7);
+        let (mut result, mut work) = ([7u32; WIDTH], [7u32; 8]);
+        let refused = compose_with(
+            table_of(&outer),
+            1,
+            outer_names,
+            table_of(&inner),
+            inner_names,
+            &mut result,
+            &mut [0; 2],
+            &mut work[1..needed],
+        );
+        assert_eq!((refused, result, work), (Err(Refusal::NoRoom { needed: needed as u64 }), [7; WIDTH], [7; 8]));
+    }
 }
 
 /// Empty slices: their address is never null.
@@ -215,8 +266,11 @@ fn nothing_lent() {
     assert_eq!(table_size(&[]), 0);
     assert!(meets_premises(&empty, 0, 0));
     assert_eq!(translate(&mut empty.clone(), 1, 1, 1), Ok(()));
-    assert_eq!(compose(&empty, 0, Names::default(), &empty, Names::default(), &mut [], &mut []), Ok(Composed { added: 0 }));
-    assert_eq!(name_of(Names::default(), Names::default(), &[], 0), None);
+    let none = Names::default();
+    assert_eq!(compose(&empty, 0, none, &empty, none, &mut [], &mut []), Ok(Composed { added: 0 }));
+    assert_eq!(compose_with(&empty, 0, none, &empty, none, &mut [], &mut [], &mut []), Ok(Composed { added: 0 }));
+    assert_eq!(work_places(none, none), 0);
+    assert_eq!(name_of(none, none, &[], 0), None);
 }
 
 /// Tables cut at every place: four-byte alignment is enough.
@@ -233,6 +287,10 @@ fn any_alignment() {
             assert_eq!(found[start % 3], 1);
         }
         assert_eq!(translate_tokens(&mut [tokens_of(table)[1]], 1, 1, 1), Ok(()));
+        let (names, mut result, mut added, mut work) = (Names { text: b"a", ends: &[1] }, [7; 2 * WIDTH], [7; 4], [7; 9]);
+        let (result, added, places) = (&mut result, &mut added[start..], &mut work[start..start + 5]);
+        assert_eq!(compose_with(table, 1, names, table, names, result, &mut added[..1], places), Ok(Composed { added: 0 }));
+        assert!(work[..start].iter().chain(&work[start + 5..]).all(|&place| place == 7));
         let mut out = [0u8; 6];
         assert_eq!(serialize_mappings(table, TokenChunk::first(2), &mut out).map(|e| e.bytes), Ok(6));
         assert_eq!(&out, b"AAEG;C");

@@ -84,10 +84,12 @@ fn composing_takes_the_outer_one() {
             Token { segment, ..Token::new(2, 0, 1, 0, Some(0), None) }, // what is found has no source
             Token { segment, ..Token::new(3, 0, 0, 0, None, None) },    // without a source
         ];
-        let mut result = [Token::default(); 4];
-        let none = Names::default();
-        let done = compose(table_of(&outer), 1, none, table_of(&[inner, bare]), none, table_of_mut(&mut result), &mut []);
+        let (mut result, mut again) = ([Token::default(); 4], [Token::default(); 4]);
+        let (none, outer, inner) = (Names::default(), table_of(&outer), [inner, bare]);
+        let done = compose(outer, 1, none, table_of(&inner), none, table_of_mut(&mut result), &mut []);
         assert_eq!(done, Ok(Composed { added: 0 }));
+        let done = compose_with(outer, 1, none, table_of(&inner), none, table_of_mut(&mut again), &mut [], &mut []);
+        assert_eq!((done, again), (Ok(Composed { added: 0 }), result));
         assert_eq!(result[0], Token { segment, ..Token::new(0, 9, 20, 2, Some(1), None) });
         for (line, token) in (1..).zip(&result[1..]) {
             assert_eq!(*token, Token { segment, ..Token::new(line, 0, 0, 0, None, None) });

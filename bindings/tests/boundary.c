@@ -3,7 +3,7 @@
  *
  *     boundary ROUNDS [long]
  *
- * long: texts of 4 GiB too, by a piece that is mapped many times; some seconds.
+ * long: texts of 4 GiB too, by a piece that is mapped many times, and the longest list of names; some seconds.
  * A read or write outside the lent memory ends the program by a signal. */
 #define _GNU_SOURCE
 #include <stdio.h>
@@ -70,7 +70,7 @@ static int back(lent l, void *to) {
     return ok;
 }
 
-static uint8_t *pens[8];
+static uint8_t *pens[9];
 
 /* Decoding in one mode, from one place to another. By default it is checked. */
 enum { DEFAULT, LENIENT, CHECKED, MODES };
@@ -845,6 +845,11 @@ static void header(void) {
     check(sizeof(pgk_token) == 28 && offsetof(pgk_token, segment) == 24, "the record of a token");
     pgk_chunk c = pgk_first_chunk(4294967295u), d = { 0, 4294967295u, 0, 0, 0, 0, 0, 0 };
     check(same_chunk(c, d), "the first chunk");
+    check(pgk_work_places(0, 0) == 0 && pgk_work_places(1, 0) == 2 && pgk_work_places(0, 1) == 3 && pgk_work_places(5, 7) == 31
+        && pgk_work_places(2147483647, 2147483647) == 10737418235, "places of working memory");
+    check(pgk_work_places(SIZE_MAX / 2, 0) == SIZE_MAX - 1 && pgk_work_places(SIZE_MAX / 2 + 1, 0) == SIZE_MAX
+        && pgk_work_places(1, SIZE_MAX / 3 - 1) == SIZE_MAX - 1 && pgk_work_places(2, SIZE_MAX / 3 - 1) == SIZE_MAX
+        && pgk_work_places(0, SIZE_MAX / 3 + 1) == SIZE_MAX && pgk_work_places(SIZE_MAX, SIZE_MAX) == SIZE_MAX, "places that do not fit");
     int ok = 1;
     for (uint64_t i = 0; i <= PGK_ODD_LIST; i++) {
         if (i == 16) continue;   /* as 15, no code */
@@ -869,34 +874,75 @@ static int equal(names a, size_t i, names b, size_t j) {
     return len == b.ends[j] - t && memcmp(a.text + s, b.text + t, len) == 0;
 }
 
-/* Composition by the rule. */
-static pgk_composed composed(const uint32_t *o, size_t on, uint32_t sources, names x, const uint32_t *in, size_t inn, names y,
-    uint32_t *res, size_t resn, uint32_t *added, size_t addn) {
+/* Two maps, what they are composed into and the working memory that is lent, each by its length. */
+typedef struct {
+    const uint32_t *outer; size_t outer_len; uint32_t sources; names x;
+    const uint32_t *inner; size_t inner_len; names y;
+    size_t result_len, added_len, work_len;
+} maps;
+
+/* Composition by the rule: without working memory, or with it. */
+static pgk_composed composed(int with, maps m, uint32_t *result, uint32_t *added) {
     pgk_composed c = { 0, 0, 0 };
-    c.code = sources > 1 ? 13 : on % W || inn % W ? 11 : !sound(x) || !sound(y) ? 14 : resn / W < on / W ? 7 : addn < x.count ? 8 : 0;
-    if (c.code == 8) c.number = x.count;
-    if (c.code != 0) return c;
-    for (size_t t = 0; t < on / W; t++) {
-        const uint32_t *k = o + W * t;
+    size_t places = with ? 2 * m.y.count + 3 * m.x.count : 0;
+    c.code = m.sources > 1 ? PGK_MORE_THAN_ONE_SOURCE : m.outer_len % W || m.inner_len % W ? PGK_BAD_TABLE : !sound(m.x) || !sound(m.y) ? PGK_BAD_NAMES
+        : m.result_len / W < m.outer_len / W ? PGK_TABLE_FULL : m.added_len < m.x.count || m.work_len < places ? PGK_NO_ROOM : PGK_DONE;
+    if (c.code == PGK_NO_ROOM) c.number = m.added_len < m.x.count ? m.x.count : places;
+    if (c.code != PGK_DONE) return c;
+    for (size_t t = 0; t < m.outer_len / W; t++) {
+        const uint32_t *k = m.outer + W * t;
         uint32_t new[W] = { k[0], k[1], 0, 0, none, none, k[6] };
-        uint64_t f = k[4] == none ? none : found(in, inn / W, k[2], k[3]);
-        if (f != none && in[W * f + 4] != none) {
-            memcpy(new + 2, in + W * f + 2, 16);
-            if (new[5] == none && k[5] < x.count) {
+        uint64_t f = k[4] == none ? none : found(m.inner, m.inner_len / W, k[2], k[3]);
+        if (f != none && m.inner[W * f + 4] != none) {
+            memcpy(new + 2, m.inner + W * f + 2, 16);
+            if (new[5] == none && k[5] < m.x.count) {
                 size_t i = 0;
-                while (i < y.count && !equal(x, k[5], y, i)) i++;
-                if (i == y.count) {
+                while (i < m.y.count && !equal(m.x, k[5], m.y, i)) i++;
+                if (i == m.y.count) {
                     size_t j = 0;
-                    while (j < c.added && !equal(x, k[5], x, added[j])) j++;
+                    while (j < c.added && !equal(m.x, k[5], m.x, added[j])) j++;
                     if (j == c.added) { added[j] = k[5]; c.added++; }
                     i += j;
                 }
                 new[5] = (uint32_t)i;
             }
         }
-        memcpy(res + W * t, new, sizeof new);
+        memcpy(result + W * t, new, sizeof new);
     }
     return c;
+}
+
+enum { RESULT = 100 * W + 4, ADDED = 104, WORK = 520 };
+
+/* One call in three placements: the rule's answer, no trace outside, of what is lent to be written only what the rule writes, and the
+ * working memory, which holds anything before, as it was where the call is refused. */
+static int compose_all(int with, maps m, pgk_composed *want) {
+    uint32_t result[RESULT], added[ADDED], marks[RESULT], ids[ADDED], work[WORK], before[WORK];
+    int ok = 1;
+    for (size_t k = 0; k < RESULT; k++) result[k] = 0x5EED0000u + (uint32_t)k;
+    for (size_t k = 0; k < ADDED; k++) added[k] = 0xADD0000u + (uint32_t)k;
+    for (size_t k = 0; k < WORK; k++) before[k] = below(3) ? below(2 * WORK) : any();
+    *want = composed(with, m, result, added);
+    for (place i = FIRST; i < PLACES; i++) {
+        for (size_t k = 0; k < RESULT; k++) marks[k] = 0x5EED0000u + (uint32_t)k;
+        for (size_t k = 0; k < ADDED; k++) ids[k] = 0xADD0000u + (uint32_t)k;
+        memcpy(work, before, sizeof work);
+        place wide = i == HEAP ? LAST : i;   /* ends are size_t, so aligned to eight */
+        lent a = lend(pens[0], i, m.outer, 4 * m.outer_len, 0), b = lend(pens[1], i, m.inner, 4 * m.inner_len, 0),
+            c = lend(pens[2], i, marks, 4 * m.result_len, 1), d = lend(pens[3], i, ids, 4 * m.added_len, 1),
+            e = lend(pens[4], wide, m.x.ends, 8 * m.x.count, 0), f = lend(pens[5], wide, m.y.ends, 8 * m.y.count, 0),
+            p = lend(pens[6], i, m.x.text, m.x.len, 0), q = lend(pens[7], i, m.y.text, m.y.len, 0), w = lend(pens[8], i, work, 4 * m.work_len, 1);
+        pgk_composed g = with
+            ? pgk_compose_with((uint32_t *)a.at, m.outer_len, m.sources, p.at, m.x.len, (size_t *)e.at, m.x.count, (uint32_t *)b.at, m.inner_len,
+                q.at, m.y.len, (size_t *)f.at, m.y.count, (uint32_t *)c.at, m.result_len, (uint32_t *)d.at, m.added_len, (uint32_t *)w.at, m.work_len)
+            : pgk_compose((uint32_t *)a.at, m.outer_len, m.sources, p.at, m.x.len, (size_t *)e.at, m.x.count, (uint32_t *)b.at, m.inner_len,
+                q.at, m.y.len, (size_t *)f.at, m.y.count, (uint32_t *)c.at, m.result_len, (uint32_t *)d.at, m.added_len);
+        ok &= g.code == want->code && g.number == want->number && g.added == want->added;
+        ok &= back(a, NULL) & back(b, NULL) & back(c, marks) & back(d, ids) & back(e, NULL) & back(f, NULL) & back(p, NULL) & back(q, NULL) & back(w, work);
+        ok &= memcmp(marks, result, sizeof marks) == 0 && memcmp(ids, added, sizeof ids) == 0;
+        if (!with || want->code != PGK_DONE) ok &= memcmp(work, before, sizeof work) == 0;
+    }
+    return ok;
 }
 
 static pgk_name named(names y, names x, const uint32_t *added, size_t addn, uint32_t id) {
@@ -908,66 +954,153 @@ static pgk_name named(names y, names x, const uint32_t *added, size_t addn, uint
     return (pgk_name){ 1, 1, start_of(x, added[at]), x.ends[added[at]] };
 }
 
-/* A list of short names, mostly sound. */
-static names some(uint8_t *text, size_t *ends) {
-    names n = { text, below(9), ends, below(6) };
-    for (size_t i = 0; i < n.len; i++) text[i] = "ab"[below(2)];
-    size_t at = 0;
+/* A list of up to so many names of up to so many letters, mostly sound. */
+static names some(uint8_t *text, size_t *ends, uint32_t most, uint32_t letters) {
+    names n = { text, 0, ends, below(most + 1) };
     for (size_t i = 0; i < n.count; i++) {
-        at += below((uint32_t)(n.len - at) + 1) % 3;
-        ends[i] = below(60) ? at : below(2) ? below(12) : ~(size_t)0 - below(3);
+        for (uint32_t k = below(letters + 1); k > 0; k--) text[n.len++] = (uint8_t)"ab"[below(2)];
+        ends[i] = n.len;
     }
+    if (n.count != 0 && below(20) == 0) ends[below((uint32_t)n.count)] = below(2) ? below((uint32_t)n.len + 3) : ~(size_t)0 - below(3);
+    while (below(3) == 0) text[n.len++] = 'a';   /* bytes that belong to no name */
     return n;
 }
 
-static void composing(unsigned rounds) {
-    int ok = 1, by_name = 1;
-    unsigned seen[15] = { 0 };
+enum { LETTERS = 512 };
+
+static void check_with(int ok, int with, const char *what) {
+    if (!ok) printf("%s working memory, ", with ? "with" : "without");
+    check(ok, what);
+}
+
+/* Each refusal, and their order; with working memory, one more, which is the last. */
+static void worked_composing(int with) {
+    static const uint32_t outer[2 * W] = { 0, 1, 2, 3, 0, 1, 4, 0, 9, 2, 4, 0, 0, 8 }, inner[W] = { 2, 3, 5, 6, 7, PGK_NONE, 9 };
+    static const size_t two[2] = { 1, 2 }, falls[2] = { 2, 1 }, past[2] = { 1, 3 };
+    static const struct { size_t outer_len; uint32_t sources; const size_t *outer_ends; size_t inner_len; const size_t *inner_ends; size_t result_len, added_len, work_len;
+        uint64_t code, number; const char *what; } rows[] = {
+        { 2 * W, 1, two, W, two, 2 * W, 2, 10, PGK_DONE, 0, "composing: exactly enough" },
+        { 2 * W, 0, two, W, two, 2 * W + 3, 9, 40, PGK_DONE, 0, "composing: more than needed" },
+        { 2 * W, 1, two, W, two, 2 * W, 2, 9, PGK_NO_ROOM, 10, "composing: NoRoom, a place too few" },
+        { 2 * W, 1, two, W, two, 2 * W, 2, 2, PGK_NO_ROOM, 10, "composing: NoRoom, as many places as names are added" },
+        { 2 * W, 1, two, W, two, 2 * W, 2, 0, PGK_NO_ROOM, 10, "composing: NoRoom, no working memory" },
+        { 2 * W, 1, two, W, two, 2 * W, 1, 10, PGK_NO_ROOM, 2, "composing: NoRoom for the added names" },
+        { 2 * W, 1, two, W, two, 2 * W, 1, 9, PGK_NO_ROOM, 2, "composing: NoRoom for the added names comes first" },
+        { 2 * W, 1, two, W, two, 2 * W - 1, 1, 0, PGK_TABLE_FULL, 0, "composing: TableFull before NoRoom" },
+        { 2 * W, 1, falls, W, two, W, 1, 0, PGK_BAD_NAMES, 0, "composing: BadNames before TableFull, outer ends that fall" },
+        { 2 * W, 1, past, W, two, W, 1, 10, PGK_BAD_NAMES, 0, "composing: BadNames, an outer end past the text" },
+        { 2 * W, 1, two, W, falls, W, 1, 0, PGK_BAD_NAMES, 0, "composing: BadNames, inner ends that fall" },
+        { 2 * W, 1, two, W, past, 2 * W, 2, 9, PGK_BAD_NAMES, 0, "composing: BadNames before NoRoom, an inner end past the text" },
+        { 2 * W - 1, 1, falls, W, two, W, 1, 0, PGK_BAD_TABLE, 0, "composing: BadTable before BadNames, outer" },
+        { 2 * W, 1, two, W - 1, falls, W, 1, 0, PGK_BAD_TABLE, 0, "composing: BadTable before BadNames, inner" },
+        { 2 * W - 1, 2, falls, W - 1, past, 0, 0, 0, PGK_MORE_THAN_ONE_SOURCE, 0, "composing: MoreThanOneSource first" },
+        { 2 * W, PGK_NONE, two, W, two, 2 * W, 2, 10, PGK_MORE_THAN_ONE_SOURCE, 0, "composing: the most sources" },
+    };
+    for (size_t i = 0; i < sizeof rows / sizeof *rows; i++) {
+        maps m = { outer, rows[i].outer_len, rows[i].sources, { (const uint8_t *)"ab", 2, rows[i].outer_ends, 2 }, inner, rows[i].inner_len,
+            { (const uint8_t *)"bb", 2, rows[i].inner_ends, 2 }, rows[i].result_len, rows[i].added_len, rows[i].work_len };
+        pgk_composed want;
+        int ok = compose_all(with, m, &want), last = rows[i].number == 10;
+        ok &= want.code == (with || !last ? rows[i].code : PGK_DONE) && want.number == (with || !last ? rows[i].number : 0);
+        check_with(ok && (want.code != PGK_DONE || want.added == 1), with, rows[i].what);
+    }
+}
+
+/* Small maps at random, with few names, of which most equal others. */
+static void small_composing(int with, unsigned rounds) {
+    int ok = 1;
+    unsigned seen[15] = { 0 }, short_of_work = 0;
     for (unsigned r = 0; r < rounds; r++) {
-        uint8_t xt[8], yt[8];
+        enum { MOST = 10 * W };
+        uint8_t xt[LETTERS], yt[LETTERS];
         size_t xe[8], ye[8];
-        names x = some(xt, xe), y = some(yt, ye);
-        enum { MOST = 10 * W, ROOM = MOST + 4 };
-        uint32_t o[MOST], in[MOST], res[ROOM], want[ROOM], add[10], wadd[10];
+        uint32_t o[MOST], in[MOST];
+        names x = some(xt, xe, 6, 2), y = some(yt, ye, 6, 2);
         for (size_t k = 0; k < MOST; k++) {
             uint32_t top = k % W < 4 ? 4 : 7;
             o[k] = below(top); in[k] = below(top);
             if (k % W == 6) { o[k] = any(); in[k] = any(); }
             if (k % W > 3) { if (below(4) == 0) o[k] = none; if (below(3) == 0) in[k] = none; }
         }
-        size_t on = below(30) ? W * below(10) : below(MOST), inn = below(30) ? W * below(10) : below(MOST);
-        size_t resn = below(10) ? on + below(5) : below(MOST), addn = below(10) ? x.count + below(3) : below(8);
-        uint32_t sources = below(20) ? below(2) : any();
-        for (size_t k = 0; k < ROOM; k++) res[k] = want[k] = 0x5EED0000u + (uint32_t)k;
-        for (size_t k = 0; k < 10; k++) add[k] = wadd[k] = 0xADD0000u + (uint32_t)k;
-        pgk_composed w = composed(o, on, sources, x, in, inn, y, want, resn, wadd, addn);
-        seen[w.code]++;
+        maps m = { o, below(30) ? W * below(10) : below(MOST), below(20) ? below(2) : any(), x, in, below(30) ? W * below(10) : below(MOST), y, 0, 0, 0 };
+        m.result_len = below(10) ? m.outer_len + below(5) : below(MOST);
+        m.added_len = below(10) ? x.count + below(3) : below(8);
+        m.work_len = below(10) ? pgk_work_places(y.count, x.count) + below(3) : below(30);
+        pgk_composed want;
+        ok &= compose_all(with, m, &want);
+        seen[want.code]++;
+        short_of_work += want.code == PGK_NO_ROOM && want.number != x.count;
+    }
+    check_with(ok, with, "composing, by the rule, in every placement");
+    check_with(seen[0] && seen[7] && seen[8] && seen[11] && seen[13] && seen[14], with, "composing met codes 0, 7, 8, 11, 13, 14");
+    check_with(with ? short_of_work > 0 : short_of_work == 0, with, "composing met NoRoom for working memory, where there is any");
+}
+
+/* Longer ones: inner tables that are sorted, sorted but for one token, and in no order; outer tokens that follow each other there, or
+ * leap; and many names. */
+static void long_composing(int with, unsigned rounds) {
+    int ok = 1;
+    unsigned named = 0, added = 0;
+    for (unsigned r = 0; r < rounds; r++) {
+        enum { MOST = 100 };
+        uint8_t xt[LETTERS], yt[LETTERS];
+        size_t xe[MOST], ye[MOST];
+        uint32_t o[MOST * W], in[MOST * W], line = 0, col = 0, order = below(3), letters = 1 + below(4);
+        names x = some(xt, xe, MOST, letters), y = some(yt, ye, MOST, letters);
+        for (size_t k = 0; k < MOST * W; k += W) {
+            if (below(20) == 0) { line++; col = 0; }
+            col += below(3);
+            in[k] = order ? line : below(6);
+            in[k + 1] = order ? col : below(4) ? below(40) : any();
+            in[k + 2] = any(); in[k + 3] = any(); in[k + 4] = below(8) ? below(3) : none; in[k + 5] = below(8) ? none : below(MOST); in[k + 6] = any();
+        }
+        if (order == 2) memcpy(in + W * below(MOST), in + W * below(MOST), 8);
+        line = col = 0;
+        for (size_t k = 0; k < MOST * W; k += W) {
+            uint32_t step = below(16);
+            if (step == 0) { line = below(8); col = below(50); }
+            else if (step == 1) { line++; col = 0; }
+            else col += below(4);
+            o[k] = any(); o[k + 1] = any(); o[k + 2] = step == 2 ? none : line; o[k + 3] = step == 2 ? any() : col;
+            o[k + 4] = below(12) ? below(2) : none; o[k + 5] = below(12) ? below((uint32_t)x.count + 2) : none; o[k + 6] = any();
+        }
+        maps m = { o, W * below(MOST + 1), below(2), x, in, W * below(MOST + 1), y, 0, x.count + below(3), pgk_work_places(y.count, x.count) + below(3) };
+        m.result_len = m.outer_len + below(5);
+        pgk_composed want;
+        ok &= compose_all(with, m, &want);
+        if (want.code == PGK_DONE) { named += y.count > 0; added += want.added > 0; }
+    }
+    check_with(ok, with, "composing over tables that are sorted or not, by the rule, in every placement");
+    check_with(named > rounds / 2 && added > rounds / 8, with, "composing met names of both lists");
+}
+
+/* The names of result ids. */
+static void naming(unsigned rounds) {
+    int ok = 1;
+    unsigned hits[2] = { 0 }, misses = 0;
+    for (unsigned r = 0; r < rounds; r++) {
+        uint8_t xt[LETTERS], yt[LETTERS];
+        size_t xe[8], ye[8];
+        names x = some(xt, xe, 6, 2), y = some(yt, ye, 6, 2);
+        uint32_t added[8];
+        size_t count = below(8);
+        for (size_t k = 0; k < count; k++) added[k] = below(8) ? below(7) : any();
         for (place i = FIRST; i < PLACES; i++) {
-            uint32_t got[ROOM], gadd[10];
-            memcpy(got, res, sizeof got); memcpy(gadd, add, sizeof gadd);
-            place wide = i == HEAP ? LAST : i;   /* ends are size_t, so aligned to eight */
-            lent a = lend(pens[0], i, o, 4 * on, 0), b = lend(pens[1], i, in, 4 * inn, 0), c = lend(pens[2], i, got, 4 * resn, 1),
-                d = lend(pens[3], i, gadd, 4 * addn, 1), e = lend(pens[4], wide, xe, 8 * x.count, 0), f = lend(pens[5], wide, ye, 8 * y.count, 0),
-                p = lend(pens[6], i, xt, x.len, 0), s = lend(pens[7], i, yt, y.len, 0);
-            pgk_composed g = pgk_compose((uint32_t *)a.at, on, sources, p.at, x.len, (size_t *)e.at, x.count,
-                (uint32_t *)b.at, inn, s.at, y.len, (size_t *)f.at, y.count, (uint32_t *)c.at, resn, (uint32_t *)d.at, addn);
-            ok &= g.code == w.code && g.number == w.number && g.added == w.added;
-            ok &= back(c, got) & back(d, gadd) & back(a, NULL) & back(b, NULL);
-            ok &= memcmp(got, want, sizeof got) == 0 && memcmp(gadd, wadd, sizeof gadd) == 0;
-            for (uint32_t q = 0; q < 16; q++) {
-                uint32_t id = q < 14 ? q : q == 14 ? none : any();
-                size_t many = w.code == 0 && below(2) ? w.added : addn;
-                lent h = lend(pens[0], i, gadd, 4 * many, 0);
-                pgk_name n = pgk_name_of(s.at, y.len, (size_t *)f.at, y.count, p.at, x.len, (size_t *)e.at, x.count, (uint32_t *)h.at, many, id);
-                pgk_name v = named(y, x, gadd, many, id);
-                by_name &= back(h, NULL) && memcmp(&n, &v, sizeof n) == 0;
+            place wide = i == HEAP ? LAST : i;
+            lent a = lend(pens[0], i, added, 4 * count, 0), e = lend(pens[1], wide, xe, 8 * x.count, 0), f = lend(pens[2], wide, ye, 8 * y.count, 0),
+                p = lend(pens[3], i, xt, x.len, 0), q = lend(pens[4], i, yt, y.len, 0);
+            for (uint32_t k = 0; k < 16; k++) {
+                uint32_t id = k < 14 ? k : k == 14 ? none : any();
+                pgk_name n = pgk_name_of(q.at, y.len, (size_t *)f.at, y.count, p.at, x.len, (size_t *)e.at, x.count, (uint32_t *)a.at, count, id);
+                pgk_name v = named(y, x, added, count, id);
+                ok &= memcmp(&n, &v, sizeof n) == 0;
+                if (v.found) hits[v.outer]++;
+                else misses++;
             }
-            ok &= back(e, NULL) & back(f, NULL) & back(p, NULL) & back(s, NULL);
+            ok &= back(a, NULL) & back(e, NULL) & back(f, NULL) & back(p, NULL) & back(q, NULL);
         }
     }
-    check(ok, "composing, by the rule, in every placement");
-    check(by_name, "names of result ids, by the rule");
-    check(seen[0] && seen[7] && seen[8] && seen[11] && seen[13] && seen[14], "composing met codes 0, 7, 8, 11, 13, 14");
+    check(ok && hits[0] && hits[1] && misses, "names of result ids, by the rule");
 }
 
 /* Length 0 with any aligned address: here, of pages that cannot be read. */
@@ -992,6 +1125,8 @@ static void empty(void) {
             ok &= a.code == 0 && a.number == 0;
         }
         pgk_composed g = pgk_compose(t, 0, 1, b, 0, e, 0, t, 0, b, 0, e, 0, t, 0, t, 0);
+        ok &= g.code == 0 && g.number == 0 && g.added == 0;
+        g = pgk_compose_with(t, 0, 1, b, 0, e, 0, t, 0, b, 0, e, 0, t, 0, t, 0, t, 0);
         ok &= g.code == 0 && g.number == 0 && g.added == 0;
         pgk_name n = pgk_name_of(b, 0, e, 0, b, 0, e, 0, t, 0, none);
         ok &= n.found == 0 && n.outer == 0 && n.start == 0 && n.end == 0;
@@ -1039,6 +1174,10 @@ static void too_many(void) {
     check(pgk_compose(&number, 0, 0, &byte, 0, &end, 0, t, W * tokens, &byte, 0, &end, 0, &number, 0, &number, 0).code == 11, "BadTable: compose, inner");
     check(pgk_compose(&number, 0, 0, &byte, 0, (size_t *)t, 2147483648u, &number, 0, &byte, 0, &end, 0, &number, 0, &number, 0).code == 14, "BadNames past 2147483647 names, outer");
     check(pgk_compose(&number, 0, 0, &byte, 0, &end, 0, &number, 0, &byte, 0, (size_t *)t, 2147483648u, &number, 0, &number, 0).code == 14, "BadNames past 2147483647 names, inner");
+    check(pgk_compose_with(t, W * tokens, 0, &byte, 0, &end, 0, &number, 0, &byte, 0, &end, 0, &number, 0, &number, 0, &number, 0).code == 11, "BadTable: compose_with, outer");
+    check(pgk_compose_with(&number, 0, 0, &byte, 0, &end, 0, t, W * tokens, &byte, 0, &end, 0, &number, 0, &number, 0, &number, 0).code == 11, "BadTable: compose_with, inner");
+    check(pgk_compose_with(&number, 0, 0, &byte, 0, (size_t *)t, 2147483648u, &number, 0, &byte, 0, &end, 0, &number, 0, &number, 0, t, W * tokens).code == 14, "BadNames past 2147483647 names, outer, with working memory");
+    check(pgk_compose_with(&number, 0, 0, &byte, 0, &end, 0, &number, 0, &byte, 0, (size_t *)t, 2147483648u, &number, 0, &number, 0, t, W * tokens).code == 14, "BadNames past 2147483647 names, inner, with working memory");
     check(pgk_name_of(&byte, 0, (size_t *)t, 2147483648u, &byte, 0, &end, 0, &number, 0, 0).found == 0, "no name in a list past 2147483647 names");
     /* An output table has no upper limit of tokens. */
     pgk_decoded d = pgk_decode((const uint8_t *)";;", 2, 0, 0, t, W * tokens);
@@ -1060,12 +1199,25 @@ static void unset(void) {
         check_many(a.code == 0 && out[0] == 1 && out[1] == none, call, "places of many lookups that were never set");
         free(out);
     }
+    /* Names that are added, equal, and found among the inner ones; the working memory has two places more than it needs. */
+    size_t ends[3] = { 1, 2, 3 };
+    uint32_t outer[4 * W], inner[W] = { 0, 0, 5, 6, 0, none, none }, *result = malloc(4 * (4 * W)), *added = malloc(4 * 3), *work = malloc(4 * 17);
+    for (uint32_t k = 0; k < 4; k++) {
+        pgk_token token = { 0, k, 0, k, 0, k, none };
+        memcpy(outer + W * k, &token, sizeof token);
+    }
+    pgk_composed c = pgk_compose_with(outer, 4 * W, 1, (const uint8_t *)"aba", 3, ends, 3, inner, W, (const uint8_t *)"bxb", 3, ends, 3, result, 4 * W, added, 3, work, 17);
+    check(c.code == 0 && c.added == 1 && added[0] == 0 && result[5] == 3 && result[W + 5] == 0 && result[2 * W + 5] == 3 && result[3 * W + 5] == none,
+        "working memory that was never set");
+    free(work);
+    free(added);
+    free(result);
     free(t);
 }
 
 /* Which lengths are tables: multiples of the width, and not of the six numbers that a token had before. */
 static void widths(void) {
-    uint32_t table[6 * W] = { 0 }, result[6 * W], added = 0;
+    uint32_t table[6 * W] = { 0 }, result[6 * W], added = 0, work = 0;
     uint8_t byte[128];
     size_t end = 0;
     int ok = 1;
@@ -1077,6 +1229,8 @@ static void widths(void) {
         ok &= pgk_meets_checked_premises(table, n, 1, 1) == (code == PGK_DONE);
         ok &= pgk_compose(table, n, 1, byte, 0, &end, 0, table, 0, byte, 0, &end, 0, result, 6 * W, &added, 1).code == code;
         ok &= pgk_compose(table, 0, 1, byte, 0, &end, 0, table, n, byte, 0, &end, 0, result, 6 * W, &added, 1).code == code;
+        ok &= pgk_compose_with(table, n, 1, byte, 0, &end, 0, table, 0, byte, 0, &end, 0, result, 6 * W, &added, 1, &work, 1).code == code;
+        ok &= pgk_compose_with(table, 0, 1, byte, 0, &end, 0, table, n, byte, 0, &end, 0, result, 6 * W, &added, 1, &work, 1).code == code;
     }
     check(ok, "BadTable for 6 and 12 numbers and all that is no multiple of 7");
 }
@@ -1116,9 +1270,26 @@ static void late(void) {
     free(commas);
 }
 
+/* The longest list of names, all of them empty: the places that are needed pass 32 bits. Working memory that is too short and the list
+ * of added names are not touched, so pages that cannot be read do for both. */
+static void longest(void) {
+    size_t count = 2147483647, needed = pgk_work_places(0, count), end = 0;
+    size_t *ends = mmap(NULL, 8 * count, PROT_READ, MAP_PRIVATE | MAP_ANONYMOUS | MAP_NORESERVE, -1, 0);
+    uint32_t *added = mmap(NULL, 4 * count, PROT_NONE, MAP_PRIVATE | MAP_ANONYMOUS | MAP_NORESERVE, -1, 0);
+    uint32_t *work = mmap(NULL, 4 * needed, PROT_NONE, MAP_PRIVATE | MAP_ANONYMOUS | MAP_NORESERVE, -1, 0), number = 0;
+    uint8_t byte = 0;
+    if ((void *)ends == MAP_FAILED || (void *)added == MAP_FAILED || (void *)work == MAP_FAILED) { printf("no list of 2147483647 names\n"); exit(2); }
+    madvise(ends, 8 * count, MADV_HUGEPAGE);   /* where it is not known, it takes some seconds more */
+    pgk_composed c = pgk_compose_with(&number, 0, 1, &byte, 0, ends, count, &number, 0, &byte, 0, &end, 0, &number, 0, added, count, work, needed - 1);
+    check(c.code == PGK_NO_ROOM && c.number == 6442450941 && c.added == 0, "NoRoom past 32 bits: compose_with");
+    munmap(work, 4 * needed);
+    munmap(added, 4 * count);
+    munmap(ends, 8 * count);
+}
+
 int main(int argc, char **argv) {
     unsigned rounds = argc > 1 ? (unsigned)strtoul(argv[1], NULL, 10) : 1000;
-    for (int i = 0; i < 8; i++) pens[i] = new_pen();
+    for (int i = 0; i < 9; i++) pens[i] = new_pen();
     header();
     worked();
     texts(rounds);
@@ -1134,12 +1305,20 @@ int main(int argc, char **argv) {
         random_many(call, rounds);
     }
     premises(rounds);
-    composing(rounds);
+    for (int with = 0; with < 2; with++) {
+        worked_composing(with);
+        small_composing(with, rounds);
+        long_composing(with, rounds);
+    }
+    naming(rounds);
     empty();
     too_many();
     unset();
     widths();
-    if (argc > 2 && strcmp(argv[2], "long") == 0) late();
+    if (argc > 2 && strcmp(argv[2], "long") == 0) {
+        late();
+        longest();
+    }
     printf("%u passed, %u failed\n", passed, failed);
     return failed != 0;
 }

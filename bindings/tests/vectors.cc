@@ -14,12 +14,27 @@ static uint32_t number;
 static uint8_t byte;
 static uint32_t *lent(std::vector<uint32_t> &v) { return v.empty() ? &number : v.data(); }
 static const uint8_t *lent(const std::vector<uint8_t> &v) { return v.empty() ? &byte : v.data(); }
+static size_t end;
+static const size_t *lent(const std::vector<size_t> &v) { return v.empty() ? &end : v.data(); }
 
 static pgk_decoded decoded(const std::vector<uint8_t> &text, std::vector<uint32_t> &table) {
     table.resize(pgk_table_size(lent(text), text.size()));
     pgk_decoded d = pgk_decode(lent(text), text.size(), 1, 0, lent(table), table.size());
     table.resize(PGK_WIDTH * d.tokens);
     return d;
+}
+
+struct Names {
+    std::vector<uint8_t> text;
+    std::vector<size_t> ends;
+};
+
+// Composes with all of these lent.
+static pgk_composed composed(std::vector<uint32_t> &outer, const Names &outer_names, std::vector<uint32_t> &inner, const Names &inner_names,
+    std::vector<uint32_t> &result, std::vector<uint32_t> &added, std::vector<uint32_t> &work) {
+    return pgk_compose_with(lent(outer), outer.size(), 1, lent(outer_names.text), outer_names.text.size(), lent(outer_names.ends), outer_names.ends.size(),
+        lent(inner), inner.size(), lent(inner_names.text), inner_names.text.size(), lent(inner_names.ends), inner_names.ends.size(),
+        lent(result), result.size(), lent(added), added.size(), lent(work), work.size());
 }
 
 int main() {
@@ -56,6 +71,24 @@ int main() {
     pgk_encoded e = pgk_encode(lent(table), table.size(), pgk_first_chunk(static_cast<uint32_t>(d.tokens)), out.data(), out.size());
     out.resize(e.bytes);
     check(out == std::vector<uint8_t>({ 'A', 'A', 'E', 'G', ';', 'C' }), "written back, without the ';' at the end");
+
+    Names none, outer_names{ { 'a', 'b' }, { 1, 2 } }, inner_names{ { 'b' }, { 1 } };
+    std::vector<uint32_t> nothing, result, added, work;
+    pgk_composed c = composed(nothing, none, nothing, none, result, added, work);
+    check(c.code == PGK_DONE && c.added == 0 && pgk_work_places(0, 0) == 0, "nothing over nothing");
+    std::vector<uint32_t> outer{ 0, 1, 0, 5, 0, 0, 8, 0, 9, 0, 6, 0, 1, 9 };
+    result.resize(outer.size());
+    c = composed(outer, outer_names, table, inner_names, result, added, work);
+    check(c.code == PGK_NO_ROOM && c.number == 2, "no places for the added names");
+    added.resize(c.number);
+    c = composed(outer, outer_names, table, inner_names, result, added, work);
+    check(c.code == PGK_NO_ROOM && c.number == pgk_work_places(1, 2) && c.number == 8, "no working memory");
+    work.resize(c.number);
+    c = composed(outer, outer_names, table, inner_names, result, added, work);
+    check(c.code == PGK_DONE && c.added == 1 && added[0] == 0, "a name is added, and one is an inner name");
+    check(result == std::vector<uint32_t>({ 0, 1, 2, 3, 0, 1, 8, 0, 9, 2, 3, 0, 0, 9 }), "two tokens over two");
+    pgk_name name = pgk_name_of(lent(inner_names.text), 1, lent(inner_names.ends), 1, lent(outer_names.text), 2, lent(outer_names.ends), 2, lent(added), c.added, result[5]);
+    check(name.found == 1 && name.outer == 1 && name.start == 0 && name.end == 1, "the added name");
 
     d = decoded({ 'A', 'A', 'E' }, table);
     check(d.code == PGK_BAD_SEGMENT_SIZE && table.empty(), "a refusal");

@@ -1,0 +1,3 @@
+const p=l("lysis");function w(t,n){s(t,n);h(t,37)}
+w(p,3);
+export{};

@@ -1,0 +1,4 @@
+export function wash(plate: Plate, times: number) {
+  spin(plate, times);
+  heat(plate, 37);
+}

@@ -290,8 +290,9 @@ pgk_composed pgk_compose(const uint32_t *outer, size_t outer_len, uint32_t outer
  * call that is done is left open; it may be lent to the next call as it is.
  *
  * Cost: that of pgk_compose but for the names. Each inner name is entered into the index once a call, and each outer name
- * that is taken is looked for once a call, so the time hardly depends on how many names there are. Only names that were
- * chosen to meet in the index are compared one by one. With few names pgk_compose does as well, and needs no memory. */
+ * that is taken is looked for once a call: beyond that one pass over the names, the time hardly depends on how many there are.
+ * Names that meet in the index, as those chosen to do so, are compared one by one. With a handful of names, or where few
+ * tokens take their outer name, pgk_compose does as well, and needs no memory. */
 pgk_composed pgk_compose_with(const uint32_t *outer, size_t outer_len, uint32_t outer_sources,
     const uint8_t *outer_names, size_t outer_names_len, const size_t *outer_ends, size_t outer_ends_len,
     const uint32_t *inner, size_t inner_len,

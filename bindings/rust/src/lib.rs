@@ -60,8 +60,8 @@
 //! each reads the line of every inner token, so the time grows with the product of both: compose such a map where the bundle is
 //! built and not while a run waits. [`compose`] searches the inner names and the added ones, one by one, for each token that
 //! takes its outer name, unless the name taken before was the same. [`compose_with`] enters each inner name into an index in lent
-//! memory once a call, and looks for each outer name that is taken once a call, so its time hardly depends on how many names
-//! there are; only names that were chosen to meet in the index are compared one by one.
+//! memory once a call, and looks for each outer name that is taken once a call: beyond that one pass over the names, its time
+//! hardly depends on how many there are. Names that meet in the index, as those chosen to do so, are compared one by one.
 //!
 //! # Refusals
 //! Every input is answered, a value or a [`Refusal`]. A refused decode keeps the tokens before the refused segment,
@@ -610,8 +610,8 @@ pub const fn work_places(inner_names: Names<'_>, outer_names: Names<'_>) -> usiz
 /// `work` may hold anything before the call, and may be longer than needed. What it holds after a call that is done is left
 /// open; it may be lent to the next call as it is.
 ///
-/// This is the one to call where names are many: its time hardly depends on their number. With few names [`compose`] does as
-/// well, and needs no memory.
+/// This is the one to call where names are many: beyond one pass over them, its time hardly depends on their number. With a
+/// handful of names, or where few tokens take their outer name, [`compose`] does as well, and needs no memory.
 ///
 /// ```
 /// use peghayrick::*;

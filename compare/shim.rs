@@ -45,6 +45,19 @@ unsafe extern "C" {
         result: &Fat,
         added: &Fat,
     );
+    fn raw_pgk_compose_with(
+        r: *mut Words<3>,
+        outer: &Fat,
+        sources: u32,
+        outer_names: &Fat,
+        outer_ends: &Fat,
+        inner: &Fat,
+        inner_names: &Fat,
+        inner_ends: &Fat,
+        result: &Fat,
+        added: &Fat,
+        work: &Fat,
+    );
     fn raw_pgk_name_of(r: *mut Words<4>, inner: &Fat, inner_ends: &Fat, outer: &Fat, outer_ends: &Fat, added: &Fat, id: u32);
 }
 
@@ -159,6 +172,45 @@ pub unsafe extern "C" fn pgk_compose(
             &fat((inner_ends, inner_ends_len)),
             &fat((result, result_len)),
             &fat((added, added_len)),
+        )
+    })
+}
+
+#[unsafe(no_mangle)]
+pub unsafe extern "C" fn pgk_compose_with(
+    outer: *const u8,
+    outer_len: usize,
+    sources: u32,
+    outer_names: *const u8,
+    outer_names_len: usize,
+    outer_ends: *const u8,
+    outer_ends_len: usize,
+    inner: *const u8,
+    inner_len: usize,
+    inner_names: *const u8,
+    inner_names_len: usize,
+    inner_ends: *const u8,
+    inner_ends_len: usize,
+    result: *const u8,
+    result_len: usize,
+    added: *const u8,
+    added_len: usize,
+    work: *const u8,
+    work_len: usize,
+) -> Words<3> {
+    answered(|r| unsafe {
+        raw_pgk_compose_with(
+            r,
+            &fat((outer, outer_len)),
+            sources,
+            &fat((outer_names, outer_names_len)),
+            &fat((outer_ends, outer_ends_len)),
+            &fat((inner, inner_len)),
+            &fat((inner_names, inner_names_len)),
+            &fat((inner_ends, inner_ends_len)),
+            &fat((result, result_len)),
+            &fat((added, added_len)),
+            &fat((work, work_len)),
         )
     })
 }

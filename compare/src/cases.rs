@@ -84,9 +84,9 @@ thread_local! {
 }
 
 /// The codes that each part can give; for what checked mode alone has, the fields; for the premises, no and yes; for the positions of
-/// many that the crate judges too, none and a token; for its tables, whether one is sorted. A decode's TooBig takes a text of 4 GiB,
-/// which only `far` has.
-const DUE: [(&str, &[u64]); 18] = [
+/// many that the crate judges too, none and a token; for its tables and the inner tables of composing, whether one is sorted. A
+/// decode's TooBig takes a text of 4 GiB, which only `far` has.
+const DUE: [(&str, &[u64]); 21] = [
     ("decode, lenient", &[0, 1, 2, 3, 4, 5, 7]),
     ("decode, checked", &[0, 1, 2, 3, 4, 5, 6, 7]),
     ("checked, a wide value", &[0, 1, 2, 3, 4]),
@@ -105,6 +105,9 @@ const DUE: [(&str, &[u64]); 18] = [
     ("many, by the crate", &[0, 1]),
     ("many, a sorted table", &[0, 1]),
     ("compose", &[0, 7, 8, 11, 13, 14]),
+    ("compose, with work", &[0, 7, 8, 11, 13, 14]),
+    ("compose, too little work", &[7, 8, 11, 13, 14]),
+    ("compose, a sorted table", &[0, 1]),
 ];
 
 /// Counts a code that a part of the library gave, and that was held to the model or to the judge of exact.
@@ -127,6 +130,12 @@ pub trait Case: Clone + Debug {
     fn show(&self) -> String {
         format!("{self:?}")
     }
+}
+
+/// Parts of a list of so many, to be left out: halves, sixteenths, and each by itself where there are not too many.
+pub fn parts(n: usize) -> impl Iterator<Item = (usize, usize)> {
+    let steps = [n.div_ceil(2), n.div_ceil(16), 1].into_iter().filter(move |&step| step > 1 || n <= 300);
+    steps.flat_map(move |step| (0..n).step_by(step.max(1)).map(move |from| (from, n.min(from + step))))
 }
 
 /// How often a departure was met, and the smallest case that met it.

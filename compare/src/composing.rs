@@ -1,13 +1,17 @@
-//! Composing. Ours is held to the model; the crate is held to the model with the crate's own lookup in it, and every
-//! difference that then remains between the two is one of the lookup's.
+//! Composing, by the plain call and by the one with working memory. Each is held to the model, and the second to the first; the crate
+//! is held to the model with the crate's own lookup in it, and every difference that then remains between the two is one of the
+//! lookup's. seeking.rs has the tables and positions that are in need of a look, naming.rs the names.
 
 use std::collections::HashMap;
 
-use crate::cases::{Case, Class, Random, Tally, met_code, other_segments, with_segments};
+use crate::cases::{Case, Class, Random, Tally, met_code, other_segments, parts, with_segments};
 use crate::looking::{self, LINES};
-use crate::model::{self, Composed, Inner, NONE, NameOf, Names, Outer, Six, Token, WIDTH, sixes, table_of, tokens_of};
-use crate::ours::{Lent, composer};
+use crate::model::{
+    self, Answer, Composed, DONE, Inner, NONE, NameOf, Names, Outer, Six, Token, WIDTH, sixes, table_of, tokens_of,
+};
+use crate::ours::{Lent, Room, composer};
 use crate::theirs::{BUILDS, Build};
+use crate::{naming, seeking, sorted};
 
 pub const TWO_SOURCES: Class = "compose: two outer sources; the crate panics";
 pub const PANICS: Class = "compose: lines of the inner list fall; the crate panics";
@@ -24,6 +28,9 @@ pub struct Pair {
     pub result: usize,
     pub added: usize,
 }
+
+/// The answer, how many names were added, and what was lent, as it is then.
+type Given = ((Answer, u64), Room);
 
 fn names_shown(names: &Names) -> String {
     if !names.sound() {
@@ -50,6 +57,19 @@ impl std::fmt::Debug for Pair {
 }
 
 impl Pair {
+    /// One source, and just enough room.
+    pub fn of(outer: &[Token], outer_names: Names, inner: &[Token], inner_names: Names) -> Pair {
+        Pair {
+            result: WIDTH * outer.len(),
+            added: outer_names.count(),
+            outer: table_of(&with_segments(outer, 0)),
+            sources: 1,
+            outer_names,
+            inner: table_of(&with_segments(inner, 1)),
+            inner_names,
+        }
+    }
+
     fn outer(&self) -> Outer<'_> {
         Outer { table: &self.outer, sources: self.sources, names: &self.outer_names }
     }
@@ -67,44 +87,79 @@ impl Pair {
             return Ok(());
         }
         let m = self.model();
-        let (result, added) = self.ours_is(&m, &self.inner)?;
+        let plain = self.ours_is(&m, &self.inner, None)?;
         // A result's token has the segment of the outer token in its place, mapped or not.
-        if let Some(i) = (6..WIDTH * m.tokens.len()).step_by(WIDTH).find(|&i| result.numbers()[i] != self.outer[i]) {
-            return Err(format!(
-                "token {} has the segment {}, its outer token {}",
-                i / WIDTH,
-                result.numbers()[i],
-                self.outer[i]
-            ));
+        let result = plain.1.result.numbers();
+        if let Some(i) = (6..WIDTH * m.tokens.len()).step_by(WIDTH).find(|&i| result[i] != self.outer[i]) {
+            return Err(format!("token {} has the segment {}, its outer token {}", i / WIDTH, result[i], self.outer[i]));
         }
-        self.ours_is(&m, &other_segments(&self.inner)).map_err(|why| format!("with other inner segments: {why}"))?;
+        let other = other_segments(&self.inner);
+        self.ours_is(&m, &other, None).map_err(|why| format!("with other inner segments: {why}"))?;
         met_code("compose", m.answer.code);
+        if m.answer.code == DONE {
+            met_code("compose, a sorted table", sorted::is_sorted(&tokens_of(&self.inner)).into());
+        }
+        self.with_work_agrees(&m, &plain, &other)?;
         // The added list as it was lent, whose places past the count hold the pattern; none; and ids on either side of the count.
         let count = self.outer_names.count() as u32;
         let around = [count, count.saturating_sub(1), count + 1, 0, NONE];
-        for list in [&m.added[..], added.numbers(), &[], &around] {
+        for list in [&m.added[..], plain.1.added.numbers(), &[], &around] {
             self.names_agree(list)?;
         }
         Ok(())
     }
 
-    /// The library, over an inner table, held to the model's answer; what it wrote.
-    fn ours_is(&self, m: &Composed, inner: &[u32]) -> Result<(Lent, Lent), String> {
-        let mut result = Lent::new(self.result);
-        let mut added = Lent::new(self.added);
-        let got =
-            composer::compose(&self.outer, self.sources, &self.outer_names, inner, &self.inner_names, &mut result, &mut added);
+    /// The library, over an inner table, held to the model's answer; what it gave and wrote.
+    fn ours_is(&self, m: &Composed, inner: &[u32], work: Option<Lent>) -> Result<Given, String> {
+        let before = work.clone();
+        let mut room = Room { result: Lent::new(self.result), added: Lent::new(self.added), work };
+        let got = composer::compose(&self.outer, self.sources, &self.outer_names, inner, &self.inner_names, &mut room);
         let want = (m.answer, m.added.len() as u64);
         if got != want {
             return Err(format!("ours {got:?}, the model {want:?}"));
         }
-        if !result.is(&table_of(&m.tokens)) {
-            return Err(format!("ours has {:?}, the model {:?}", tokens_of(result.numbers()), m.tokens));
+        if !room.result.is(&table_of(&m.tokens)) {
+            return Err(format!("ours has {:?}, the model {:?}", tokens_of(room.result.numbers()), m.tokens));
         }
-        if !added.is(&m.added) {
-            return Err(format!("ours adds {:?}, the model {:?}", added.numbers(), m.added));
+        if !room.added.is(&m.added) {
+            return Err(format!("ours adds {:?}, the model {:?}", room.added.numbers(), m.added));
         }
-        Ok((result, added))
+        if m.answer.code != DONE && room.work != before {
+            return Err("a refusal changed the working memory".to_string());
+        }
+        if room.work.as_ref().is_some_and(|work| !work.is(work.numbers())) {
+            return Err("something was written beside the working memory".to_string());
+        }
+        Ok((got, room))
+    }
+
+    /// The call with working memory: just enough, more, one number less, and none. It may hold anything: numbers as an index has them,
+    /// any numbers, or what a call left.
+    fn with_work_agrees(&self, m: &Composed, plain: &Given, other: &[u32]) -> Result<(), String> {
+        let need = model::work_for(&self.outer_names, &self.inner_names);
+        for len in [need, need + 1 + self.size() % 20, need.saturating_sub(1), 0] {
+            let m = model::compose_with(m, need, len);
+            let shown = |why: String| format!("with {len} numbers of working memory: {why}");
+            let with = self.ours_is(&m, &self.inner, Some(self.used(len))).map_err(shown)?;
+            met_code(if len < need { "compose, too little work" } else { "compose, with work" }, m.answer.code);
+            if len >= need {
+                if with.0 != plain.0 || with.1.result != plain.1.result || with.1.added != plain.1.added {
+                    return Err(shown("not what the plain call gives".to_string()));
+                }
+                self.ours_is(&m, other, with.1.work).map_err(|why| shown(format!("again, with other inner segments: {why}")))?;
+            }
+        }
+        Ok(())
+    }
+
+    /// Working memory that was used before. Half of the time an entry leads to one before it, as in an index.
+    fn used(&self, len: usize) -> Lent {
+        let mut random = Random::new((self.size() + len) as u64, "work");
+        let names = (self.outer_names.count() + self.inner_names.count()).max(1);
+        let index = random.one_in(2);
+        let numbers: Vec<u32> =
+            (0..len).map(|p| if index { random.below(p % names + 1) as u32 } else { random.next() as u32 }).collect();
+        Lent::holding(&numbers)
     }
 
     fn names_agree(&self, added: &[u32]) -> Result<(), String> {
@@ -170,14 +225,13 @@ impl Case for Pair {
             let inner = tokens_of(&self.inner);
             let look = |line, col| model::lookup(&inner, line, col).map(|i| inner[i]);
             let (tokens, _) = model::composed(&self.outer(), &self.inner(), &look);
-            let explained = tokens_of(&self.outer)
-                .iter()
-                .any(|t| t.source_id != NONE && looking::class_of(&inner, t.src_line, t.src_col).is_some());
+            let differs = |t: &Token| t.source_id != NONE && looking::class_of(&inner, t.src_line, t.src_col).is_some();
+            let explained = || tokens_of(&self.outer).iter().any(differs);
             match theirs {
                 None if self.sources > 1 => classes.push(TWO_SOURCES),
                 None => classes.push(PANICS),
                 Some((t, _)) if t == sixes(&tokens) => {}
-                Some(_) if explained => classes.push(LOOKUP),
+                Some(_) if explained() => classes.push(LOOKUP),
                 Some((t, _)) => return Err(format!("the {} crate has {t:?}, ours {tokens:?}", build.name)),
             }
         }
@@ -187,26 +241,26 @@ impl Case for Pair {
 
     fn smaller(&self) -> Vec<Pair> {
         let mut list = Vec::new();
-        for i in 0..self.outer.len() / WIDTH {
+        for (from, to) in parts(self.outer.len() / WIDTH) {
             let mut p = self.clone();
-            p.outer.drain(WIDTH * i..WIDTH * (i + 1));
+            p.outer.drain(WIDTH * from..WIDTH * to);
             list.push(p);
         }
-        for i in 0..self.inner.len() / WIDTH {
+        for (from, to) in parts(self.inner.len() / WIDTH) {
             let mut p = self.clone();
-            p.inner.drain(WIDTH * i..WIDTH * (i + 1));
+            p.inner.drain(WIDTH * from..WIDTH * to);
             list.push(p);
         }
-        let with = |names: &Names, i: usize| {
-            let kept: Vec<&[u8]> = (0..names.count()).filter(|&k| k != i).map(|k| names.name(k)).collect();
+        let without = |names: &Names, from: usize, to: usize| {
+            let kept: Vec<&[u8]> = (0..names.count()).filter(|&k| k < from || to <= k).map(|k| names.name(k)).collect();
             names_of(&kept, b"")
         };
         if self.outer_names.sound() && self.inner_names.sound() {
-            for i in 0..self.outer_names.count() {
-                list.push(Pair { outer_names: with(&self.outer_names, i), ..self.clone() });
+            for (from, to) in parts(self.outer_names.count()) {
+                list.push(Pair { outer_names: without(&self.outer_names, from, to), ..self.clone() });
             }
-            for i in 0..self.inner_names.count() {
-                list.push(Pair { inner_names: with(&self.inner_names, i), ..self.clone() });
+            for (from, to) in parts(self.inner_names.count()) {
+                list.push(Pair { inner_names: without(&self.inner_names, from, to), ..self.clone() });
             }
         }
         for i in 0..self.outer.len() {
@@ -362,8 +416,39 @@ pub fn small(go: &mut dyn FnMut(Pair) -> bool) {
     }
 }
 
+/// Every refusal beside every other: two sources, no table, an end out of order, too little room for the result and for the added names.
+/// The check itself lends too little working memory too.
+fn refusals(go: &mut dyn FnMut(Pair) -> bool) {
+    let token = |col: u32, name_id: u32| Token::with([0, col, 0, col, 0, name_id], 0);
+    let (outer, inner) = ([token(0, 0), token(1, 1), token(2, 2)], [token(0, NONE), token(1, NONE)]);
+    for (outer_count, inner_count) in (0..3).flat_map(|o| (0..3).map(move |i| (o, i))) {
+        let names = |count: usize| names_of(&[&b"a"[..], b"", b"b"][..count], b"");
+        let whole = Pair::of(&outer, names(outer_count), &inner, names(inner_count));
+        for wrong in 0..1 << 7 {
+            let mut pair = whole.clone();
+            let is = |bit: u32| wrong >> bit & 1 == 1;
+            pair.sources = if is(0) { 2 } else { 1 };
+            pair.outer.truncate(pair.outer.len() - usize::from(is(1)));
+            pair.inner.truncate(pair.inner.len() - usize::from(is(2)));
+            for (names, wrong) in [(&mut pair.outer_names, is(3)), (&mut pair.inner_names, is(4))] {
+                if let Some(end) = names.ends.last_mut().filter(|_| wrong) {
+                    *end = 9;
+                }
+            }
+            pair.result -= usize::from(is(5));
+            pair.added = pair.added.saturating_sub(is(6).into());
+            if !go(pair) {
+                return;
+            }
+        }
+    }
+}
+
 pub fn run(tally: &mut Tally, seed: u64, scale: usize) {
     tally.group("compose: every small inner list", small);
     tally.group("compose: short lists", |go| pairs(&mut Random::new(seed, "pairs"), 200_000 * scale, 6, go));
     tally.group("compose: long lists", |go| pairs(&mut Random::new(seed, "long pairs"), 1_000 * scale, 200, go));
+    tally.group("compose: every refusal beside every other", refusals);
+    seeking::run(tally, seed, scale);
+    naming::run(tally, seed, scale);
 }

@@ -5,7 +5,7 @@ use std::time::Instant;
 use crate::cases::Tally;
 use crate::composing::names_of;
 use crate::model::{self, Answer, NONE, NameOf, Names, Six, Token, TokenChunk, WIDTH, answer, sixes, table_of};
-use crate::ours::{self, Entry, Lent, LentBytes, composer, writer};
+use crate::ours::{self, Entry, Lent, LentBytes, Room, composer, writer};
 use crate::theirs::{BUILDS, Build};
 
 fn at(dst_line: u32, dst_col: u32) -> Token {
@@ -153,18 +153,23 @@ fn composing(build: &Build) -> Result<(), String> {
     same("lines fall", (build.compose)(&[], 1, &none, &fall, &none), None)?;
     same("before", (build.compose)(&outer, 1, &none, &inner, &none), Some((sixes(&outer), vec![])))?;
     if composer::HERE {
-        let run = |outer: &[Token], sources, names: &Names, inner: &[Token], room: &mut Lent, added| {
-            composer::compose(&table_of(outer), sources, names, &table_of(inner), &none, room, &mut Lent::new(added))
-        };
-        let mut room = Lent::new(WIDTH);
-        same("two sources", run(&[], 2, &none, &[], &mut room, 0), (answer(model::MORE_THAN_ONE_SOURCE, 0), 0))?;
-        same("lines fall", run(&[], 1, &none, &fall, &mut room, 0), (answer(model::DONE, 0), 0))?;
-        same("before", run(&outer, 1, &none, &inner, &mut room, 0), (answer(model::DONE, 0), 0))?;
-        same("before", room.is(&table_of(&[at(0, 0)])), true)?;
-        let mut short = Lent::new(WIDTH - 1);
-        same("no place", run(&[at(0, 0)], 1, &none, &[], &mut short, 0), (answer(model::TABLE_FULL, 0), 0))?;
-        let one = names_of(&[b"a"], b"");
-        same("no place", run(&[], 1, &one, &[], &mut short, 0), (answer(model::NO_ROOM, 1), 0))?;
+        // By the plain call, and by the one with working memory: three numbers are enough for one outer name.
+        for work in [None, Some(3)] {
+            let run = |outer: &[Token], sources, names: &Names, inner: &[Token], numbers, added| {
+                let mut room = Room { result: Lent::new(numbers), added: Lent::new(added), work: work.map(Lent::new) };
+                let got = composer::compose(&table_of(outer), sources, names, &table_of(inner), &none, &mut room);
+                (got, room.result)
+            };
+            let code = |(got, _): ((Answer, u64), Lent)| got;
+            same("two sources", code(run(&[], 2, &none, &[], WIDTH, 0)), (answer(model::MORE_THAN_ONE_SOURCE, 0), 0))?;
+            same("lines fall", code(run(&[], 1, &none, &fall, WIDTH, 0)), (answer(model::DONE, 0), 0))?;
+            let (got, result) = run(&outer, 1, &none, &inner, WIDTH, 0);
+            same("before", got, (answer(model::DONE, 0), 0))?;
+            same("before", result.is(&table_of(&[at(0, 0)])), true)?;
+            same("no place", code(run(&[at(0, 0)], 1, &none, &[], WIDTH - 1, 0)), (answer(model::TABLE_FULL, 0), 0))?;
+            let one = names_of(&[b"a"], b"");
+            same("no place", code(run(&[], 1, &one, &[], WIDTH - 1, 0)), (answer(model::NO_ROOM, 1), 0))?;
+        }
         let unknown = NameOf { found: 0, outer: 0, start: 0, end: 0 };
         same("no name", composer::name_of(&none, &none, &[], 0), unknown)?;
     }

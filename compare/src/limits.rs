@@ -117,14 +117,17 @@ fn names(at: *mut u32) -> Result<(), String> {
         expect("names, the most", ours::raw::name_found(ends, most, most as u32 - 1), 1)?;
         expect("names, past the most", ours::raw::name_found(ends, most, most as u32), 0)?;
         for numbers in no_tables() {
-            expect("compose, outer", ours::raw::compose_code(at, numbers, at, WIDTH, ends, 0), BAD)?;
-            expect("compose, inner", ours::raw::compose_code(at, WIDTH, at, numbers, ends, 0), BAD)?;
+            expect("compose, outer", ours::raw::compose_codes(at, numbers, at, WIDTH, ends, 0), [BAD; 2])?;
+            expect("compose, inner", ours::raw::compose_codes(at, WIDTH, at, numbers, ends, 0), [BAD; 2])?;
         }
-        let bad = answer(model::BAD_NAMES, 0);
-        expect("compose, names", ours::raw::compose_code(at, WIDTH, at, WIDTH, ends, most + 1), bad)?;
+        let bad = [answer(model::BAD_NAMES, 0); 2];
+        expect("compose, names", ours::raw::compose_codes(at, WIDTH, at, WIDTH, ends, most + 1), bad)?;
         // The largest tables are taken: what is refused is the room.
-        let full = answer(model::TABLE_FULL, 0);
-        expect("compose, the largest", ours::raw::compose_code(at, LARGEST, at, LARGEST, ends, 0), full)
+        let full = [answer(model::TABLE_FULL, 0); 2];
+        expect("compose, the largest", ours::raw::compose_codes(at, LARGEST, at, LARGEST, ends, 0), full)?;
+        // So are the most names; the numbers of working memory that they take have more than 32 bits.
+        let short = answer(model::NO_ROOM, 5 * most as u64);
+        expect("compose, working memory", ours::raw::work_code(ends, most, at, 5 * most - 1), short)
     }
 }
 

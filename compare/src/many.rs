@@ -2,7 +2,7 @@
 //! the crate where its lookup has no way to differ; and the quick one to the plain one. The plain one reads the table in blocks of 64
 //! tokens: the tables here end before, at and past a block's end. sorted.rs has those that the quick one is in need of.
 
-use crate::cases::{Case, Class, EDGES, Random, Tally, met_code, other_segments};
+use crate::cases::{Case, Class, EDGES, Random, Tally, met_code, other_segments, parts};
 use crate::looking::{self, Ask, LINES};
 use crate::model::{self, NONE, Token, WIDTH, table_of, tokens_of};
 use crate::ours::{self, Lent, Many};
@@ -12,7 +12,7 @@ use crate::theirs::BUILDS;
 const BLOCK: usize = 64;
 
 /// How many tokens.
-const COUNTS: [usize; 9] = [0, 1, 63, 64, 65, 127, 128, 129, 200];
+pub const COUNTS: [usize; 9] = [0, 1, 63, 64, 65, 127, 128, 129, 200];
 
 #[derive(Clone)]
 pub struct Asks {
@@ -39,6 +39,11 @@ impl Asks {
     /// With just enough room.
     pub fn of(places: Vec<(u32, u32)>, asked: &[(u32, u32)]) -> Asks {
         Asks { places, cut: 0, positions: asked.iter().flat_map(|&(l, c)| [l, c]).collect(), room: asked.len() }
+    }
+
+    /// Line and column of each position.
+    pub fn asked(&self) -> Vec<(u32, u32)> {
+        self.positions.chunks_exact(2).map(|pair| (pair[0], pair[1])).collect()
     }
 
     pub fn table(&self) -> Vec<u32> {
@@ -120,11 +125,6 @@ impl Case for Asks {
     fn smaller(&self) -> Vec<Asks> {
         let (tokens, pairs) = (self.places.len(), self.positions.len() / 2);
         let mut list = Vec::new();
-        // Halves, sixteenths, and each by itself where there are not too many.
-        let parts = |n: usize| {
-            let steps = [n.div_ceil(2), n.div_ceil(16), 1].into_iter().filter(move |&step| step > 1 || n <= 300);
-            steps.flat_map(move |step| (0..n).step_by(step.max(1)).map(move |from| (from, n.min(from + step))))
-        };
         for (from, to) in parts(tokens) {
             let mut a = self.clone();
             a.places.drain(from..to);

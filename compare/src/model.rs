@@ -613,6 +613,19 @@ pub fn compose(outer: &Outer, inner: &Inner, result: usize, added: usize) -> Com
     Composed { answer: answer(DONE, 0), tokens, added }
 }
 
+/// The numbers of working memory that composing takes.
+pub fn work_for(outer: &Names, inner: &Names) -> usize {
+    2 * inner.count() + 3 * outer.count()
+}
+
+/// Composing with so much working memory, of which so much is needed: one test more, behind all others.
+pub fn compose_with(plain: &Composed, needed: usize, work: usize) -> Composed {
+    if plain.answer.code == DONE && work < needed {
+        return Composed { answer: answer(NO_ROOM, needed as u64), tokens: vec![], added: vec![] };
+    }
+    plain.clone()
+}
+
 /// The name of a result id: whether it is there, whether it stands in the outer text, and where.
 #[repr(C)]
 #[derive(Clone, Copy, PartialEq, Eq, Debug)]

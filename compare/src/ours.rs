@@ -34,7 +34,7 @@ fn pattern(i: usize) -> u32 {
 }
 
 /// Numbers to lend, between two guards, all of it the pattern at first.
-#[derive(PartialEq)]
+#[derive(Clone, PartialEq)]
 pub struct Lent {
     memory: Vec<u32>,
     len: usize,
@@ -65,6 +65,13 @@ impl Lent {
             && self.numbers()[..numbers.len()] == *numbers
             && self.memory.iter().enumerate().all(|(i, &m)| (GUARD..GUARD + numbers.len()).contains(&i) || m == pattern(i))
     }
+}
+
+/// What is lent to composing for writing; working memory where the call takes it.
+pub struct Room {
+    pub result: Lent,
+    pub added: Lent,
+    pub work: Option<Lent>,
 }
 
 /// Bytes to lend, between two guards, all of it the pattern at first.
@@ -224,7 +231,7 @@ pub mod raw {
     pub use super::writer::raw as encode;
 
     #[cfg(compose)]
-    pub use super::composer::{compose_code, name_found};
+    pub use super::composer::{compose_codes, name_found, work_code};
 }
 
 /// The writer, where the library has it.
@@ -303,6 +310,27 @@ pub mod composer {
             added: *mut u32,
             added_len: usize,
         ) -> ComposedOut;
+        fn pgk_compose_with(
+            outer: *const u32,
+            outer_len: usize,
+            outer_sources: u32,
+            outer_names: *const u8,
+            outer_names_len: usize,
+            outer_ends: *const usize,
+            outer_ends_len: usize,
+            inner: *const u32,
+            inner_len: usize,
+            inner_names: *const u8,
+            inner_names_len: usize,
+            inner_ends: *const usize,
+            inner_ends_len: usize,
+            result: *mut u32,
+            result_len: usize,
+            added: *mut u32,
+            added_len: usize,
+            work: *mut u32,
+            work_len: usize,
+        ) -> ComposedOut;
         fn pgk_name_of(
             inner_names: *const u8,
             inner_names_len: usize,
@@ -320,37 +348,26 @@ pub mod composer {
 
     pub const HERE: bool = true;
 
-    /// The answer and how many names were added.
+    /// The answer and how many names were added: by the call that takes working memory where some is lent.
     pub fn compose(
         outer: &[u32],
         sources: u32,
         outer_names: &Names,
         inner: &[u32],
         inner_names: &Names,
-        result: &mut Lent,
-        added: &mut Lent,
+        room: &mut Room,
     ) -> (Answer, u64) {
         let (o, i, on, inn) = (outer.to_vec(), inner.to_vec(), outer_names.clone(), inner_names.clone());
-        let c = unsafe {
-            pgk_compose(
-                o.as_ptr(),
-                o.len(),
-                sources,
-                on.text.as_ptr(),
-                on.text.len(),
-                on.ends.as_ptr(),
-                on.ends.len(),
-                i.as_ptr(),
-                i.len(),
-                inn.text.as_ptr(),
-                inn.text.len(),
-                inn.ends.as_ptr(),
-                inn.ends.len(),
-                result.ptr(),
-                result.len,
-                added.ptr(),
-                added.len,
-            )
+        let (ot, oe, it, ie) = (&on.text, &on.ends, &inn.text, &inn.ends);
+        let (op, otp, oep, ip, itp, iep) = (o.as_ptr(), ot.as_ptr(), oe.as_ptr(), i.as_ptr(), it.as_ptr(), ie.as_ptr());
+        let (ol, otl, oel, il, itl, iel) = (o.len(), ot.len(), oe.len(), i.len(), it.len(), ie.len());
+        let (r, rl, a, al) = (room.result.ptr(), room.result.len, room.added.ptr(), room.added.len);
+        let c = match &mut room.work {
+            None => unsafe { pgk_compose(op, ol, sources, otp, otl, oep, oel, ip, il, itp, itl, iep, iel, r, rl, a, al) },
+            Some(work) => unsafe {
+                let (w, wl) = (work.ptr(), work.len);
+                pgk_compose_with(op, ol, sources, otp, otl, oep, oel, ip, il, itp, itl, iep, iel, r, rl, a, al, w, wl)
+            },
         };
         assert!(o == outer && i == inner && on == *outer_names && inn == *inner_names, "what was lent for reading changed");
         (Answer { code: c.code, number: c.number }, c.added)
@@ -380,38 +397,34 @@ pub mod composer {
         unsafe { pgk_name_of(none, 0, ends, count, none, 0, ends, 0, none.cast(), 0, id).found }
     }
 
-    /// The answer for two tables of zeros, an outer list of names over an empty text, and no room at all.
-    pub unsafe fn compose_code(
+    /// The answers of both calls for two tables of zeros, an outer list of names over an empty text, and no room at all.
+    pub unsafe fn compose_codes(
         outer: *const u32,
         outer_numbers: usize,
         inner: *const u32,
         inner_numbers: usize,
         ends: *const usize,
         count: usize,
-    ) -> Answer {
-        let none = std::ptr::dangling::<u8>();
+    ) -> [Answer; 2] {
+        let n = std::ptr::dangling::<u8>();
+        let (on, inn) = (outer_numbers, inner_numbers);
         let mut room = Lent::new(0);
-        let c = unsafe {
-            pgk_compose(
-                outer,
-                outer_numbers,
-                1,
-                none,
-                0,
-                ends,
-                count,
-                inner,
-                inner_numbers,
-                none,
-                0,
-                ends,
-                0,
-                room.ptr(),
-                0,
-                room.ptr(),
-                0,
-            )
+        let r = room.ptr();
+        let both = unsafe {
+            [
+                pgk_compose(outer, on, 1, n, 0, ends, count, inner, inn, n, 0, ends, 0, r, 0, r, 0),
+                pgk_compose_with(outer, on, 1, n, 0, ends, count, inner, inn, n, 0, ends, 0, r, 0, r, 0, r, 0),
+            ]
         };
+        both.map(|c| Answer { code: c.code, number: c.number })
+    }
+
+    /// The answer for no tokens, two lists of so many names over an empty text, room for all of them to be added, and so much working
+    /// memory.
+    pub unsafe fn work_code(ends: *const usize, count: usize, work: *mut u32, work_numbers: usize) -> Answer {
+        let n = std::ptr::dangling::<u8>();
+        let (t, a, w, wl) = (work.cast_const(), work, work, work_numbers);
+        let c = unsafe { pgk_compose_with(t, 0, 1, n, 0, ends, count, t, 0, n, 0, ends, count, a, 0, a, count, w, wl) };
         Answer { code: c.code, number: c.number }
     }
 }
@@ -422,7 +435,7 @@ pub mod composer {
 
     pub const HERE: bool = false;
 
-    pub fn compose(_: &[u32], _: u32, _: &Names, _: &[u32], _: &Names, _: &mut Lent, _: &mut Lent) -> (Answer, u64) {
+    pub fn compose(_: &[u32], _: u32, _: &Names, _: &[u32], _: &Names, _: &mut Room) -> (Answer, u64) {
         unreachable!()
     }
 

@@ -19,15 +19,15 @@ pub fn is_sorted(tokens: &[Token]) -> bool {
 }
 
 /// Every short length, and longer ones around powers of four.
-fn lengths() -> impl Iterator<Item = usize> {
+pub fn lengths() -> impl Iterator<Item = usize> {
     (0..=70).chain([127, 128, 129, 255, 256, 257])
 }
 
 /// All residues, and on either side of a power of four.
-const LONG: [usize; 7] = [1000, 1001, 1002, 1003, 1023, 1024, 1025];
+pub const LONG: [usize; 7] = [1000, 1001, 1002, 1003, 1023, 1024, 1025];
 const LONGER: [usize; 3] = [4095, 4096, 4097];
 
-fn once(mut asked: Vec<Place>) -> Vec<Place> {
+pub fn once(mut asked: Vec<Place>) -> Vec<Place> {
     asked.sort();
     asked.dedup();
     asked
@@ -45,7 +45,7 @@ fn square(n: u32) -> Vec<Place> {
 }
 
 /// Every sorted list of so many tokens on so many lines and columns.
-fn every_sorted(tokens: RangeInclusive<usize>, wide: u32, go: Go) {
+pub fn every_sorted(tokens: RangeInclusive<usize>, wide: u32, go: Go) {
     let (at, asked) = (square(wide), square(wide + 1));
     for tokens in tokens {
         let mut list = Some(vec![0; tokens]);
@@ -64,7 +64,7 @@ fn every_sorted(tokens: RangeInclusive<usize>, wide: u32, go: Go) {
 }
 
 /// Every list of so many tokens at a few places, sorted or not.
-fn every_list(tokens: RangeInclusive<usize>, at: &[Place], go: Go) {
+pub fn every_list(tokens: RangeInclusive<usize>, at: &[Place], go: Go) {
     let count = at.len();
     for tokens in tokens {
         for code in 0..count.pow(tokens as u32) {
@@ -76,7 +76,7 @@ fn every_list(tokens: RangeInclusive<usize>, at: &[Place], go: Go) {
     }
 }
 
-const KINDS: usize = 6;
+pub const KINDS: usize = 6;
 
 /// So many tokens, sorted, of one kind.
 pub fn in_order(kind: usize, count: usize) -> Vec<Place> {
@@ -157,7 +157,7 @@ fn steps(go: Go) {
     }
 }
 
-const FALLS: usize = 6;
+pub const FALLS: usize = 6;
 
 /// So many tokens, sorted but for the one at `i`, which stands before the one before it.
 pub fn fallen(kind: usize, count: usize, i: usize) -> Vec<Place> {

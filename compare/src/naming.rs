@@ -121,7 +121,7 @@ fn one_slot(random: &mut Random, go: Go) {
 }
 
 /// The ids of so many tokens, of a list of so many names: any, the same again and again, two by turns, rising or falling.
-fn some_ids(random: &mut Random, tokens: usize, names: usize) -> Vec<u32> {
+pub fn some_ids(random: &mut Random, tokens: usize, names: usize) -> Vec<u32> {
     let id = |random: &mut Random| match random.below(12) {
         0 => NONE,
         1 => random.pick(&[names as u32, names as u32 + 1, 0x8000_0000, NONE - 1]),
@@ -140,6 +140,17 @@ fn some_ids(random: &mut Random, tokens: usize, names: usize) -> Vec<u32> {
     }
     ids.truncate(tokens);
     ids
+}
+
+/// So many names of so many kinds, some of which have the same number.
+pub fn some_names(random: &mut Random, count: usize, kinds: usize) -> Names {
+    let alike: Vec<Vec<u8>> = alike().into_iter().flatten().collect();
+    let name = |random: &mut Random| match random.below(kinds) {
+        0 => vec![],
+        k if k <= alike.len() => alike[k - 1].clone(),
+        k => format!("n{k}").into_bytes(),
+    };
+    list(&(0..count).map(|_| name(random)).collect::<Vec<_>>(), b"")
 }
 
 /// Lists of so many names at most, of few kinds or of many: empty ones, some with the same number, some that begin alike.

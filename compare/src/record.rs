@@ -13,10 +13,10 @@ use crate::decoding::{self, Text};
 use crate::looking::{self, Ask};
 use crate::many::{self, Asks};
 use crate::model::{NONE, Names, Six, Token, TokenChunk, WIDTH, bad_table, is_delimiter, sixes, table_of, tokens_of};
-use crate::sorted;
 use crate::theirs::{BUILDS, RELEASE};
 use crate::translating::Move;
 use crate::writing::{self, Write};
+use crate::{naming, seeking, sorted};
 
 const BLOCK: usize = 4096;
 
@@ -501,6 +501,40 @@ fn compose(file: &mut File, seed: u64) {
         put_pair(file, &case);
         true
     });
+    // Longer than what is near, and shorter; in rising order, falling or any.
+    file.group("compose: sorted inner tables");
+    for count in [1, 3, 8, 15, 16, 17, 18, 24, 32, 33, 34, 40] {
+        for (i, kind) in [0, 3, 6].into_iter().enumerate() {
+            let places = seeking::table(kind, count);
+            put_positions(file, &mut random, &places, &sorted::beside(&places), (count + i) % 3);
+        }
+    }
+    file.group("compose: inner lines that fall");
+    for count in [5, 12, 17, 18, 20, 24, 30] {
+        for i in [count / 3, count - 2] {
+            let places = sorted::fallen(1 + i % 2, count, i);
+            put_positions(file, &mut random, &places, &many::around(&places[i - 1..=i]), 2);
+        }
+    }
+    file.group("compose: many names");
+    for (outer, inner) in [(ENDS, ENDS), (ENDS, 0), (20, 12), (12, 20), (6, ENDS), (ENDS, 6)] {
+        for kinds in [4, 12, 40, 200] {
+            let (outer, inner) = (naming::some_names(&mut random, outer, kinds), naming::some_names(&mut random, inner, kinds));
+            let ids = naming::some_ids(&mut random, 25, outer.count());
+            put_pair(file, &naming::asking(&ids, outer, inner));
+        }
+    }
+}
+
+/// Outer tokens at as many of the positions as a record has room for, those where the crate's lookup has no way to differ, in one of the
+/// orders.
+fn put_positions(file: &mut File, random: &mut Random, places: &[(u32, u32)], asked: &[(u32, u32)], order: usize) {
+    let inner = tokens_of(&seeking::in_turn(places, &[]).inner);
+    let judged: Vec<(u32, u32)> = asked.iter().copied().filter(|&(l, c)| looking::class_of(&inner, l, c).is_none()).collect();
+    let room = (NUMBERS - 20 - WIDTH * places.len()) / (2 * WIDTH);
+    let some: Vec<(u32, u32)> = (0..room).map(|_| random.pick(&judged)).collect();
+    let in_order = &seeking::orders(random, &some)[order];
+    put_pair(file, &seeking::in_turn(places, in_order));
 }
 
 // ---------------------------------------------------------------- many positions

@@ -1,8 +1,9 @@
-// A recorded answer of composing, held to what the library gives.
+// A recorded answer of composing, held to what the library gives, by either call.
 //
 // The numbers: sources; how many outer numbers, inner numbers, outer names and inner names; the bytes of the outer names. Then the
 // outer tokens, the inner tokens, the result's tokens, the outer ends, the inner ends and the added names. The text has the outer
 // names and then the inner names.
+use compose::Composed;
 ghost use Prim.Native.Nat.{_<_, _≤_};
 ghost use mathlib.Core.Path.{_≡_};
 ghost use lib.ListN.{length};
@@ -36,6 +37,47 @@ fn ends_in(numbers: &[u32], out: &mut [usize]) -> usize
     i
 }
 
+// By the plain call, or by the one with working memory.
+fn composed(
+    sources: u32,
+    outer: &[u32],
+    outer_names: &[u8],
+    outer_ends: &[usize],
+    inner: &[u32],
+    inner_names: &[u8],
+    inner_ends: &[usize],
+    result: &mut [u32],
+    added: &mut [u32],
+    work: &mut [u32],
+    with: bool,
+) -> Composed {
+    if with {
+        return compose::compose_with(
+            outer,
+            sources,
+            outer_names,
+            outer_ends,
+            inner,
+            inner_names,
+            inner_ends,
+            result,
+            added,
+            work,
+        );
+    }
+    compose::compose(
+        outer,
+        sources,
+        outer_names,
+        outer_ends,
+        inner,
+        inner_names,
+        inner_ends,
+        result,
+        added,
+    )
+}
+
 // Into lists that hold sevens.
 fn composes(
     sources: u32,
@@ -49,10 +91,12 @@ fn composes(
     want_added: &[u32],
     result: &mut [u32],
     added: &mut [u32],
+    work: &mut [u32],
+    with: bool,
 ) -> bool {
-    let r = compose::compose(
-        outer,
+    let r = composed(
         sources,
+        outer,
         outer_names,
         outer_ends,
         inner,
@@ -60,6 +104,8 @@ fn composes(
         inner_ends,
         result,
         added,
+        work,
+        with,
     );
     let c = r.code;
     if !replay::answers(c, 0, 0) {
@@ -74,7 +120,7 @@ fn composes(
     replay::holds(added, want_added, 7)
 }
 
-// With more room than it takes, and with just enough.
+// With more room than it takes, and with just enough: the working memory then holds what the first call left.
 fn composes_twice(
     sources: u32,
     outer: &[u32],
@@ -85,9 +131,11 @@ fn composes_twice(
     inner_ends: &[usize],
     want: &[u32],
     want_added: &[u32],
+    with: bool,
 ) -> bool {
     let mut result = replay::sevens();
     let mut added = replay::sevens();
+    let mut work = replay::sevens();
     if !composes(
         sources,
         outer,
@@ -100,6 +148,8 @@ fn composes_twice(
         want_added,
         &mut result,
         &mut added,
+        &mut work,
+        with,
     ) {
         return false;
     }
@@ -107,10 +157,14 @@ fn composes_twice(
     let mut just_added = replay::sevens();
     let places = want.len();
     let names = outer_ends.len();
+    let inner_count = inner_ends.len();
     if 480 < places {
         return false;
     }
-    if 480 < names {
+    if 32 < names {
+        return false;
+    }
+    if 32 < inner_count {
         return false;
     }
     composes(
@@ -125,6 +179,48 @@ fn composes_twice(
         want_added,
         &mut just[..places],
         &mut just_added[..names],
+        &mut work[..2 * inner_count + 3 * names],
+        with,
+    )
+}
+
+// By the plain call, and by the one with working memory.
+fn both_compose(
+    sources: u32,
+    outer: &[u32],
+    outer_names: &[u8],
+    outer_ends: &[usize],
+    inner: &[u32],
+    inner_names: &[u8],
+    inner_ends: &[usize],
+    want: &[u32],
+    want_added: &[u32],
+) -> bool {
+    if !composes_twice(
+        sources,
+        outer,
+        outer_names,
+        outer_ends,
+        inner,
+        inner_names,
+        inner_ends,
+        want,
+        want_added,
+        false,
+    ) {
+        return false;
+    }
+    composes_twice(
+        sources,
+        outer,
+        outer_names,
+        outer_ends,
+        inner,
+        inner_names,
+        inner_ends,
+        want,
+        want_added,
+        true,
     )
 }
 
@@ -146,7 +242,7 @@ fn parts_agree(
     let n = ends_in(&numbers[outer_ends..inner_ends], &mut outer_list);
     let mut inner_list = no_ends();
     let m = ends_in(&numbers[inner_ends..added], &mut inner_list);
-    composes_twice(
+    both_compose(
         numbers[0],
         &numbers[6..inner],
         &text[..names],

@@ -46,80 +46,80 @@ slice-aggregate-ends-in-2 c = search needs
 ends-in-requires-2 : tie.Need-ends-in-requires-2
 ends-in-requires-2 c κs = search needs
 
-shared-slice-read-composes-twice : tie.Need-shared-slice-read-composes-twice
-shared-slice-read-composes-twice c = search needs
+shared-slice-read-both-compose : tie.Need-shared-slice-read-both-compose
+shared-slice-read-both-compose c = search needs
 
-sub-composes-twice : tie.Need-sub-composes-twice
-sub-composes-twice c = search needs
+sub-both-compose : tie.Need-sub-both-compose
+sub-both-compose c = search needs
 
-part-composes-twice-start : tie.Need-part-composes-twice-start
-part-composes-twice-start c = search needs
+part-both-compose-start : tie.Need-part-both-compose-start
+part-both-compose-start c = search needs
 
-part-composes-twice-end : tie.Need-part-composes-twice-end
-part-composes-twice-end c = search needs
+part-both-compose-end : tie.Need-part-both-compose-end
+part-both-compose-end c = search needs
 
-slice-aggregate-composes-twice : tie.Need-slice-aggregate-composes-twice
-slice-aggregate-composes-twice c = sym (length-take-le _ _ (search needs))
+slice-aggregate-both-compose : tie.Need-slice-aggregate-both-compose
+slice-aggregate-both-compose c = sym (length-take-le _ _ (search needs))
 
 array-share-prefix-outer-list : tie.Need-array-share-prefix-outer-list
 array-share-prefix-outer-list c = search needs
 
-slice-aggregate-composes-twice-2 : tie.Need-slice-aggregate-composes-twice-2
-slice-aggregate-composes-twice-2 c = search needs
+slice-aggregate-both-compose-2 : tie.Need-slice-aggregate-both-compose-2
+slice-aggregate-both-compose-2 c = search needs
 
-mul-composes-twice : tie.Need-mul-composes-twice
-mul-composes-twice c = search needs
+mul-both-compose : tie.Need-mul-both-compose
+mul-both-compose c = search needs
 
-sub-composes-twice-2 : tie.Need-sub-composes-twice-2
-sub-composes-twice-2 c = search needs
+sub-both-compose-2 : tie.Need-sub-both-compose-2
+sub-both-compose-2 c = search needs
 
-part-composes-twice-start-2 : tie.Need-part-composes-twice-start-2
-part-composes-twice-start-2 c = search needs
+part-both-compose-start-2 : tie.Need-part-both-compose-start-2
+part-both-compose-start-2 c = search needs
 
-part-composes-twice-end-2 : tie.Need-part-composes-twice-end-2
-part-composes-twice-end-2 c = search needs
+part-both-compose-end-2 : tie.Need-part-both-compose-end-2
+part-both-compose-end-2 c = search needs
 
-sub-composes-twice-3 : tie.Need-sub-composes-twice-3
-sub-composes-twice-3 c = search needs
+sub-both-compose-3 : tie.Need-sub-both-compose-3
+sub-both-compose-3 c = search needs
 
-part-composes-twice-start-3 : tie.Need-part-composes-twice-start-3
-part-composes-twice-start-3 c = search needs
+part-both-compose-start-3 : tie.Need-part-both-compose-start-3
+part-both-compose-start-3 c = search needs
 
-part-composes-twice-end-3 : tie.Need-part-composes-twice-end-3
-part-composes-twice-end-3 c = search needs
+part-both-compose-end-3 : tie.Need-part-both-compose-end-3
+part-both-compose-end-3 c = search needs
 
 array-share-prefix-inner-list : tie.Need-array-share-prefix-inner-list
 array-share-prefix-inner-list c = search needs
 
-slice-aggregate-composes-twice-3 : tie.Need-slice-aggregate-composes-twice-3
-slice-aggregate-composes-twice-3 c = search needs
+slice-aggregate-both-compose-3 : tie.Need-slice-aggregate-both-compose-3
+slice-aggregate-both-compose-3 c = search needs
 
-mul-composes-twice-2 : tie.Need-mul-composes-twice-2
-mul-composes-twice-2 c = search needs
+mul-both-compose-2 : tie.Need-mul-both-compose-2
+mul-both-compose-2 c = search needs
 
-sub-composes-twice-4 : tie.Need-sub-composes-twice-4
-sub-composes-twice-4 c = search needs
+sub-both-compose-4 : tie.Need-sub-both-compose-4
+sub-both-compose-4 c = search needs
 
-part-composes-twice-start-4 : tie.Need-part-composes-twice-start-4
-part-composes-twice-start-4 c = search needs
+part-both-compose-start-4 : tie.Need-part-both-compose-start-4
+part-both-compose-start-4 c = search needs
 
-part-composes-twice-end-4 : tie.Need-part-composes-twice-end-4
-part-composes-twice-end-4 c = search needs
+part-both-compose-end-4 : tie.Need-part-both-compose-end-4
+part-both-compose-end-4 c = search needs
 
-mul-composes-twice-3 : tie.Need-mul-composes-twice-3
-mul-composes-twice-3 c = search needs
+mul-both-compose-3 : tie.Need-mul-both-compose-3
+mul-both-compose-3 c = search needs
 
-sub-composes-twice-5 : tie.Need-sub-composes-twice-5
-sub-composes-twice-5 c = search needs
+sub-both-compose-5 : tie.Need-sub-both-compose-5
+sub-both-compose-5 c = search needs
 
-part-composes-twice-start-5 : tie.Need-part-composes-twice-start-5
-part-composes-twice-start-5 c = search needs
+part-both-compose-start-5 : tie.Need-part-both-compose-start-5
+part-both-compose-start-5 c = search needs
 
-part-composes-twice-end-5 : tie.Need-part-composes-twice-end-5
-part-composes-twice-end-5 c = search needs
+part-both-compose-end-5 : tie.Need-part-both-compose-end-5
+part-both-compose-end-5 c = search needs
 
-composes-twice-requires : tie.Need-composes-twice-requires
-composes-twice-requires c κs = search needs
+both-compose-requires : tie.Need-both-compose-requires
+both-compose-requires c κs = search needs
 
 returns : tie.Need-returns
 returns c = search needs
@@ -142,29 +142,29 @@ parts-agree-spec =
     part-ends-in-end-2
     slice-aggregate-ends-in-2
     ends-in-requires-2
-    shared-slice-read-composes-twice
-    sub-composes-twice
-    part-composes-twice-start
-    part-composes-twice-end
-    slice-aggregate-composes-twice
+    shared-slice-read-both-compose
+    sub-both-compose
+    part-both-compose-start
+    part-both-compose-end
+    slice-aggregate-both-compose
     array-share-prefix-outer-list
-    slice-aggregate-composes-twice-2
-    mul-composes-twice
-    sub-composes-twice-2
-    part-composes-twice-start-2
-    part-composes-twice-end-2
-    sub-composes-twice-3
-    part-composes-twice-start-3
-    part-composes-twice-end-3
+    slice-aggregate-both-compose-2
+    mul-both-compose
+    sub-both-compose-2
+    part-both-compose-start-2
+    part-both-compose-end-2
+    sub-both-compose-3
+    part-both-compose-start-3
+    part-both-compose-end-3
     array-share-prefix-inner-list
-    slice-aggregate-composes-twice-3
-    mul-composes-twice-2
-    sub-composes-twice-4
-    part-composes-twice-start-4
-    part-composes-twice-end-4
-    mul-composes-twice-3
-    sub-composes-twice-5
-    part-composes-twice-start-5
-    part-composes-twice-end-5
-    composes-twice-requires
+    slice-aggregate-both-compose-3
+    mul-both-compose-2
+    sub-both-compose-4
+    part-both-compose-start-4
+    part-both-compose-end-4
+    mul-both-compose-3
+    sub-both-compose-5
+    part-both-compose-start-5
+    part-both-compose-end-5
+    both-compose-requires
     returns)

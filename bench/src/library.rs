@@ -40,9 +40,42 @@ pub fn lookup_many_quick(table: &[u32], positions: &[u32], found: &mut [u32]) ->
     unsafe { pgk_lookup_many_quick(table.as_ptr(), table.len(), p, positions.len(), f, found.len()) }
 }
 
-pub fn compose(outer: &[u32], outer_names: &Names, inner: &[u32], inner_names: &Names, result: &mut [u32], added: &mut [u32]) -> Composed {
-    let names = |names: &Names| (names.text.as_ptr(), names.text.len(), names.ends.as_ptr(), names.ends.len());
-    let ((on, on_len, oe, oe_len), (inn, inn_len, ie, ie_len)) = (names(outer_names), names(inner_names));
-    let (o, i, r, a) = (outer.as_ptr(), inner.as_ptr(), result.as_mut_ptr(), added.as_mut_ptr());
-    unsafe { pgk_compose(o, outer.len(), 1, on, on_len, oe, oe_len, i, inner.len(), inn, inn_len, ie, ie_len, r, result.len(), a, added.len()) }
+/// A name list as the C names take it: the text and the ends.
+fn lent(names: &Names) -> (*const u8, usize, *const usize, usize) {
+    (names.text.as_ptr(), names.text.len(), names.ends.as_ptr(), names.ends.len())
+}
+
+/// What composing reads: both tables, each with its names.
+pub struct Maps<'a> {
+    pub outer: &'a [u32],
+    pub outer_names: &'a Names,
+    pub inner: &'a [u32],
+    pub inner_names: &'a Names,
+}
+
+pub fn compose(maps: &Maps, result: &mut [u32], added: &mut [u32]) -> Composed {
+    let (o, ol, i, il) = (maps.outer.as_ptr(), maps.outer.len(), maps.inner.as_ptr(), maps.inner.len());
+    let ((on, onl, oe, oel), (inn, innl, ie, iel)) = (lent(maps.outer_names), lent(maps.inner_names));
+    let (r, rl, a, al) = (result.as_mut_ptr(), result.len(), added.as_mut_ptr(), added.len());
+    unsafe { pgk_compose(o, ol, 1, on, onl, oe, oel, i, il, inn, innl, ie, iel, r, rl, a, al) }
+}
+
+/// The same answers: names are found by an index in the working memory.
+pub fn compose_with(maps: &Maps, result: &mut [u32], added: &mut [u32], work: &mut [u32]) -> Composed {
+    let (o, ol, i, il) = (maps.outer.as_ptr(), maps.outer.len(), maps.inner.as_ptr(), maps.inner.len());
+    let ((on, onl, oe, oel), (inn, innl, ie, iel)) = (lent(maps.outer_names), lent(maps.inner_names));
+    let (r, rl, a, al) = (result.as_mut_ptr(), result.len(), added.as_mut_ptr(), added.len());
+    let (w, wl) = (work.as_mut_ptr(), work.len());
+    unsafe { pgk_compose_with(o, ol, 1, on, onl, oe, oel, i, il, inn, innl, ie, iel, r, rl, a, al, w, wl) }
+}
+
+#[rustfmt::skip]
+unsafe extern "C" {
+    fn pgk_compose_with(
+        outer: *const u32, outer_len: usize, outer_sources: u32,
+        outer_names: *const u8, outer_names_len: usize, outer_ends: *const usize, outer_ends_len: usize,
+        inner: *const u32, inner_len: usize,
+        inner_names: *const u8, inner_names_len: usize, inner_ends: *const usize, inner_ends_len: usize,
+        result: *mut u32, result_len: usize, added: *mut u32, added_len: usize, work: *mut u32, work_len: usize,
+    ) -> Composed;
 }

@@ -10,12 +10,13 @@ use std::borrow::Cow;
 use std::hint::black_box;
 use std::path::{Path, PathBuf};
 use std::process::ExitCode;
+use std::time::Instant;
 
 use memory::Memory;
 use oxc_sourcemap::{SourceMap, Token, TokenChunk, reach};
 use peghayrick::{TokenChunk as Chunk, WIDTH};
-use texts::{Kind, Names, Random, Text, made, made_tokens, real, table_of, whole};
-use timing::{Thing, Timed, after, plain, shown, timed};
+use texts::{Kind, Names, Random, Text, made, made_names, made_tokens, real, real_names, table_of, whole};
+use timing::{Thing, Timed, after, plain, shown, timed, timed_few};
 
 #[global_allocator]
 static MEMORY: Memory = Memory::new();
@@ -499,57 +500,134 @@ fn quick(seconds: f64) {
     }
 }
 
-fn some_names(prefix: &str, count: usize) -> Names {
-    let mut names = Names::default();
-    for i in 0..count {
-        names.text.extend_from_slice(format!("{prefix}{i}").as_bytes());
-        names.ends.push(names.text.len());
-    }
-    names
+/// How the positions of an outer list lie: as tokens of the inner one come, or from anywhere to anywhere.
+#[derive(Clone, Copy)]
+enum Order {
+    Rising,
+    Any,
 }
 
-/// An outer list of tokens that lead to places of the inner one.
-fn outer_over(inner: &[Token], count: usize) -> Vec<Token> {
+/// An outer list of tokens that lead to places of the inner one; two in five have one of so many names.
+fn outer_over(inner: &[Token], count: usize, order: Order, names: usize) -> Vec<Token> {
     let mut r = Random(5);
-    log_of(inner, count)
-        .into_iter()
+    let mut log = log_of(inner, count);
+    if let Order::Rising = order {
+        log.sort();
+    }
+    log.into_iter()
         .enumerate()
         .map(|(i, (line, col))| {
-            let name = (r.below(10) < 4).then(|| r.below(200) as u32);
+            let name = (r.below(10) < 4).then(|| r.below(names as u64) as u32);
             Token::new(i as u32 / 20, (i as u32 % 20) * 10, line, col, Some(0), name)
         })
         .collect()
 }
 
-fn compose(seconds: f64) {
-    println!("\ncompose: 200 names each; the crate's own copies of its maps are made before the clock runs");
-    println!("{:>8} {:>8} {:>20} {:>12} {:>6}", "outer", "inner", "ratio", "us", "runs");
-    for (n, m) in [(40, 100_000), (500, 500), (1_000, 1_000), (2_000, 2_000), (4_000, 4_000), (8_000, 8_000)] {
-        let inner = made_tokens(Kind::Mixed, m);
-        let outer = outer_over(&inner, n);
-        let (inner_names, outer_names) = (some_names("i", 200), some_names("o", 200));
-        let (inner_table, outer_table) = (table_of(&inner), table_of(&outer));
-        let mut result = vec![0u32; outer_table.len()];
-        let mut added = vec![0u32; 200];
-        let (inner_map, outer_map) = (map_of(&inner, &inner_names, 10), map_of(&outer, &outer_names, 1));
-        let ours =
-            || assert!(library::compose(&outer_table, &outer_names, &inner_table, &inner_names, &mut result, &mut added).code == 0);
-        let theirs = after(
-            || (outer_map.clone(), inner_map.clone()),
+/// A map to compose: its tokens, its names, and how many sources it has.
+struct Map {
+    tokens: Vec<Token>,
+    names: Names,
+    sources: usize,
+}
+
+/// Where a call takes longer, the calls are run in turn a few times.
+const LONG: f64 = 0.25;
+const FEW: usize = 3;
+
+/// Both calls beside the crate, which makes no table of lines where lines fall.
+fn compose_of(seconds: f64, name: &str, outer: &Map, inner: &Map) {
+    let (outer_table, inner_table) = (table_of(&outer.tokens), table_of(&inner.tokens));
+    let maps = library::Maps { outer: &outer_table, outer_names: &outer.names, inner: &inner_table, inner_names: &inner.names };
+    let (outer_count, inner_count) = (outer.names.ends.len(), inner.names.ends.len());
+    let (mut result, mut added) = (vec![0u32; outer_table.len()], vec![0u32; outer_count]);
+    let (mut result_with, mut added_with) = (result.clone(), added.clone());
+    let mut work = vec![0u32; 2 * inner_count + 3 * outer_count];
+    let begun = Instant::now();
+    let plainly = library::compose(&maps, &mut result, &mut added);
+    let slow = begun.elapsed().as_secs_f64() > LONG;
+    let with = library::compose_with(&maps, &mut result_with, &mut added_with, &mut work);
+    assert!(plainly.code == 0 && with.code == 0 && plainly.added == with.added, "{name}: refused");
+    assert!(result == result_with && added == added_with, "{name}: the calls differ");
+    let mut things = vec![
+        plain(|| assert!(library::compose(&maps, &mut result, &mut added).code == 0)),
+        plain(|| assert!(library::compose_with(&maps, &mut result_with, &mut added_with, &mut work).code == 0)),
+    ];
+    if inner.tokens.windows(2).all(|w| w[0].get_dst_line() <= w[1].get_dst_line()) {
+        let theirs = (map_of(&outer.tokens, &outer.names, 1), map_of(&inner.tokens, &inner.names, inner.sources));
+        things.push(after(
+            move || theirs.clone(),
             |(outer, inner)| {
                 black_box(outer.compose(inner));
             },
-        );
-        let r: Timed = timed(seconds, vec![plain(ours), theirs]);
-        println!(
-            "{:>8} {:>8} {:>20} {:>12.1} {:>6}",
-            n,
-            m,
-            format!("{:.1} ({:.1}-{:.1})", r.ratios[0].0, r.ratios[0].1, r.ratios[0].2),
-            r.medians[0] * 1e6,
-            r.runs
-        );
+        ));
     }
+    let r: Timed = if slow { timed_few(FEW, things) } else { timed(seconds, things) };
+    let ratio = |i: usize| if r.medians.len() > 2 { shown(r.ratio(i, 2)) } else { "-".into() };
+    println!(
+        "{:<22} {:>8} {:>8} {:>13} {:>6} {:>20} {:>20} {:>11.1} {:>11.1} {:>11} {:>5}",
+        name,
+        outer.tokens.len(),
+        inner.tokens.len(),
+        format!("{outer_count} {inner_count}"),
+        with.added,
+        ratio(0),
+        ratio(1),
+        r.medians[0] * 1e6,
+        r.medians[1] * 1e6,
+        r.medians.get(2).map_or("-".into(), |m| format!("{:.1}", m * 1e6)),
+        r.runs
+    );
+}
+
+/// The real maps that lie one over another, or are taken for such.
+const CHAINS: [(&str, &str, &str); 3] = [
+    ("chain", "chain-tsc-terser-1outer", "chain-tsc-terser-1inner"),
+    ("terser over esbuild", "terser-three", "esbuild-bundle-ts-parser"),
+    ("terser over tsc", "terser-typescript", "tsc-js-typescript"),
+];
+
+fn real_map(corpus: &Path, id: &str) -> Result<Map, String> {
+    let t = real(corpus, id)?;
+    Ok(Map { names: real_names(corpus, id, t.names as usize)?, tokens: t.tokens, sources: t.sources as usize })
+}
+
+fn compose(seconds: f64, corpus: &Path) {
+    println!("\ncompose: the plain call, and the one with working memory; the crate's own copies of its maps are made before the clock");
+    println!("runs. Positions in rising order, or any. Where the plain call takes more than {LONG} s, {FEW} runs");
+    println!(
+        "{:<22} {:>8} {:>8} {:>13} {:>6} {:>20} {:>20} {:>11} {:>11} {:>11} {:>5}",
+        "positions", "outer", "inner", "names", "added", "compose", "compose_with", "us", "with, us", "crate, us", "runs"
+    );
+    let made = |count: usize, names: Names| Map { tokens: made_tokens(Kind::Mixed, count), names, sources: 10 };
+    let over = |inner: &Map, count: usize, order: Order, names: Names| Map {
+        tokens: outer_over(&inner.tokens, count, order, names.ends.len()),
+        names,
+        sources: 1,
+    };
+    let few = |prefix: &str| made_names(prefix, 200);
+    let orders = [("rising", Order::Rising), ("any", Order::Any)];
+    let inner = made(100_000, few("i"));
+    compose_of(seconds, "any", &over(&inner, 40, Order::Any, few("o")), &inner);
+    for count in [1_000, 8_000, 10_000, 100_000, LARGE] {
+        let inner = made(count, few("i"));
+        for (name, order) in orders {
+            compose_of(seconds, name, &over(&inner, count, order, few("o")), &inner);
+        }
+    }
+    let inner = made(100_000, made_names("i", 10_000));
+    for (name, prefix) in [("rising, other names", "o"), ("rising, equal names", "i")] {
+        compose_of(seconds, name, &over(&inner, 100_000, Order::Rising, made_names(prefix, 10_000)), &inner);
+    }
+    for (name, outer, inner) in CHAINS {
+        match (real_map(corpus, outer), real_map(corpus, inner)) {
+            (Ok(outer), Ok(inner)) => compose_of(seconds, name, &outer, &inner),
+            (Err(e), _) | (_, Err(e)) => println!("(no {name}: {e})"),
+        }
+    }
+    let mut inner = made(1_000, few("i"));
+    let outer = over(&inner, 1_000, Order::Any, few("o"));
+    inner.tokens.reverse();
+    compose_of(seconds, "any, over a fall", &outer, &inner);
 }
 
 /// Short texts, where what a call costs by itself shows.
@@ -676,7 +754,7 @@ fn run() -> Result<(), String> {
         quick(seconds);
     }
     if asked("compose") {
-        compose(seconds);
+        compose(seconds, &corpus);
     }
     if asked("small") {
         small(seconds);

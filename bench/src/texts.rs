@@ -23,6 +23,13 @@ pub struct Names {
     pub ends: Vec<usize>,
 }
 
+impl Names {
+    fn push(&mut self, name: &str) {
+        self.text.extend(name.bytes());
+        self.ends.push(self.text.len());
+    }
+}
+
 pub struct Random(pub u64);
 
 impl Random {
@@ -106,12 +113,37 @@ pub fn real(corpus: &Path, id: &str) -> Result<Text, String> {
     let manifest: serde_json::Value = serde_json::from_str(&manifest).map_err(|e| e.to_string())?;
     let map = manifest["maps"].as_array().and_then(|maps| maps.iter().find(|m| m["id"] == id)).ok_or(format!("no map {id}"))?;
     let file = corpus.join(map["file"].as_str().ok_or("no file")?);
-    let out = Command::new("xz").arg("-dc").arg(&file).output().map_err(|e| format!("xz: {e}"))?;
-    let text = String::from_utf8(out.stdout).map_err(|e| e.to_string())?;
+    let text = match file.extension().is_some_and(|e| e == "xz") {
+        true => Command::new("xz").arg("-dc").arg(&file).output().map_err(|e| format!("xz: {e}"))?.stdout,
+        false => fs::read(&file).map_err(|e| format!("{}: {e}", file.display()))?,
+    };
+    let text = String::from_utf8(text).map_err(|e| e.to_string())?;
     let number = |key: &str| map[key].as_u64().ok_or(format!("{id} has no {key}")).map(|n| n as u32);
     let (sources, names) = (number("S")?, number("N")?);
     let tokens = reach::decode_mapping(&text, names as usize, sources as usize).map_err(|e| format!("{id}: {e}"))?;
     Ok(Text { name: id.split('-').next().unwrap_or(id).into(), text, sources, names, tokens })
+}
+
+/// So many names that begin alike.
+pub fn made_names(prefix: &str, count: usize) -> Names {
+    let mut names = Names::default();
+    for i in 0..count {
+        names.push(&format!("{prefix}{i}"));
+    }
+    names
+}
+
+/// The names of a real map; made ones where the corpus does not have them.
+pub fn real_names(corpus: &Path, id: &str, count: usize) -> Result<Names, String> {
+    let at = corpus.join("names").join(format!("{id}.json"));
+    if !at.exists() {
+        return Ok(made_names("name", count));
+    }
+    let text = fs::read_to_string(&at).map_err(|e| format!("{}: {e}", at.display()))?;
+    let list: Vec<String> = serde_json::from_str(&text).map_err(|e| format!("{}: {e}", at.display()))?;
+    let mut names = Names::default();
+    list.iter().for_each(|name| names.push(name));
+    Ok(names)
 }
 
 /// The list as the library's table. The crate's token has no segment: it is none.

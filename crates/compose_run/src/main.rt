@@ -182,6 +182,37 @@ fn maps() {
     );
 }
 
+// The same maps with so many places of working memory, which hold numbers already: it takes 19.
+fn maps_with(label: &[u8], places: usize)
+    requires { ⌜ places ≤ 19 ⌝ }
+{
+    let inner = inner_table();
+    let outer = outer_table();
+    let outer_ends = [4usize, 9, 9, 14, 19];
+    let inner_ends = [5usize, 9];
+    let mut result = [7u32; 100];
+    let mut added = [77u32; 6];
+    let mut work = [1u32; 19];
+    print_line(label);
+    let c = compose::compose_with(
+        &outer,
+        1,
+        b"betagammagammaalpha",
+        &outer_ends,
+        &inner,
+        b"alphabeta",
+        &inner_ends,
+        &mut result,
+        &mut added,
+        &mut work[..places],
+    );
+    print_answer(c);
+    print_rows(&result);
+    print_line(b"");
+    print_rows(&added);
+    print_line(b"");
+}
+
 // One composition over the names of "xy", into so many numbers and so many places.
 fn small(
     label: &[u8],
@@ -265,4 +296,6 @@ fn main() {
     bad_tables();
     bad_names();
     empties();
+    maps_with(b"with working memory", 19);
+    maps_with(b"with too little", 18);
 }

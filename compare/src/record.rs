@@ -509,6 +509,12 @@ fn compose(file: &mut File, seed: u64) {
             put_positions(file, &mut random, &places, &sorted::beside(&places), (count + i) % 3);
         }
     }
+    // From one token to another so many further on, on either side of where what is near ends.
+    for step in 14..=18 {
+        let places = seeking::table(0, 34);
+        let asked: Vec<(u32, u32)> = (0..8).flat_map(|i| [places[i], places[i + step]]).take(15).collect();
+        put_pair(file, &seeking::in_turn(&places, &asked));
+    }
     file.group("compose: inner lines that fall");
     for count in [5, 12, 17, 18, 20, 24, 30] {
         for i in [count / 3, count - 2] {

@@ -530,9 +530,16 @@ struct Map {
     sources: usize,
 }
 
-/// Where a call takes longer, the calls are run in turn a few times.
+/// Where the plain call takes longer, in seconds, it is run a few times.
 const LONG: f64 = 0.25;
 const FEW: usize = 3;
+
+/// Ours, and the crate's composing of these maps.
+fn beside<'a>(ours: Thing<'a>, theirs: Option<&'a (SourceMap<'static>, SourceMap<'static>)>) -> Vec<Thing<'a>> {
+    let run = |(outer, inner): (SourceMap<'static>, SourceMap<'static>)| drop(black_box(outer.compose(inner)));
+    let theirs = theirs.map(|pair| after(move || pair.clone(), run));
+    [Some(ours), theirs].into_iter().flatten().collect()
+}
 
 /// Both calls beside the crate, which makes no table of lines where lines fall.
 fn compose_of(seconds: f64, name: &str, outer: &Map, inner: &Map) {
@@ -548,34 +555,28 @@ fn compose_of(seconds: f64, name: &str, outer: &Map, inner: &Map) {
     let with = library::compose_with(&maps, &mut result_with, &mut added_with, &mut work);
     assert!(plainly.code == 0 && with.code == 0 && plainly.added == with.added, "{name}: refused");
     assert!(result == result_with && added == added_with, "{name}: the calls differ");
-    let mut things = vec![
-        plain(|| assert!(library::compose(&maps, &mut result, &mut added).code == 0)),
-        plain(|| assert!(library::compose_with(&maps, &mut result_with, &mut added_with, &mut work).code == 0)),
-    ];
-    if inner.tokens.windows(2).all(|w| w[0].get_dst_line() <= w[1].get_dst_line()) {
-        let theirs = (map_of(&outer.tokens, &outer.names, 1), map_of(&inner.tokens, &inner.names, inner.sources));
-        things.push(after(
-            move || theirs.clone(),
-            |(outer, inner)| {
-                black_box(outer.compose(inner));
-            },
-        ));
-    }
-    let r: Timed = if slow { timed_few(FEW, things) } else { timed(seconds, things) };
-    let ratio = |i: usize| if r.medians.len() > 2 { shown(r.ratio(i, 2)) } else { "-".into() };
+    let sorted = inner.tokens.windows(2).all(|w| w[0].get_dst_line() <= w[1].get_dst_line());
+    let pair = (map_of(&outer.tokens, &outer.names, 1), map_of(&inner.tokens, &inner.names, inner.sources));
+    let theirs = sorted.then_some(&pair);
+    let ours = || assert!(library::compose(&maps, &mut result, &mut added).code == 0);
+    let things = beside(plain(ours), theirs);
+    let p: Timed = if slow { timed_few(FEW, things) } else { timed(seconds, things) };
+    let ours = || assert!(library::compose_with(&maps, &mut result_with, &mut added_with, &mut work).code == 0);
+    let w = timed(seconds, beside(plain(ours), theirs));
+    let ratio = |t: &Timed| t.ratios.first().map_or("-".into(), |&ratio| shown(ratio));
     println!(
-        "{:<22} {:>8} {:>8} {:>13} {:>6} {:>20} {:>20} {:>11.1} {:>11.1} {:>11} {:>5}",
+        "{:<22} {:>8} {:>8} {:>12} {:>6} {:>20} {:>20} {:>11.1} {:>11.1} {:>11} {:>9}",
         name,
         outer.tokens.len(),
         inner.tokens.len(),
         format!("{outer_count} {inner_count}"),
         with.added,
-        ratio(0),
-        ratio(1),
-        r.medians[0] * 1e6,
-        r.medians[1] * 1e6,
-        r.medians.get(2).map_or("-".into(), |m| format!("{:.1}", m * 1e6)),
-        r.runs
+        ratio(&p),
+        ratio(&w),
+        p.medians[0] * 1e6,
+        w.medians[0] * 1e6,
+        w.medians.get(1).map_or("-".into(), |m| format!("{:.1}", m * 1e6)),
+        format!("{} {}", p.runs, w.runs)
     );
 }
 
@@ -593,9 +594,9 @@ fn real_map(corpus: &Path, id: &str) -> Result<Map, String> {
 
 fn compose(seconds: f64, corpus: &Path) {
     println!("\ncompose: the plain call, and the one with working memory; the crate's own copies of its maps are made before the clock");
-    println!("runs. Positions in rising order, or any. Where the plain call takes more than {LONG} s, {FEW} runs");
+    println!("runs. Positions in rising order, or any. Where the plain call takes more than {LONG} s, it is run {FEW} times");
     println!(
-        "{:<22} {:>8} {:>8} {:>13} {:>6} {:>20} {:>20} {:>11} {:>11} {:>11} {:>5}",
+        "{:<22} {:>8} {:>8} {:>12} {:>6} {:>20} {:>20} {:>11} {:>11} {:>11} {:>9}",
         "positions", "outer", "inner", "names", "added", "compose", "compose_with", "us", "with, us", "crate, us", "runs"
     );
     let made = |count: usize, names: Names| Map { tokens: made_tokens(Kind::Mixed, count), names, sources: 10 };

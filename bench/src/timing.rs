@@ -39,25 +39,9 @@ fn sorted(mut list: Vec<f64>) -> Vec<f64> {
 pub struct Timed {
     /// The median of each, in seconds.
     pub medians: Vec<f64>,
-    /// First to each other one, as `ratio` has them.
+    /// First to each other one: the ratio of the medians, and the quartiles of the ratios of neighbouring runs.
     pub ratios: Vec<(f64, f64, f64)>,
     pub runs: usize,
-    lists: Vec<Vec<f64>>,
-}
-
-impl Timed {
-    fn of(lists: Vec<Vec<f64>>) -> Timed {
-        let medians = lists.iter().map(|list| at(&sorted(list.clone()), 0.5)).collect();
-        let mut timed = Timed { medians, ratios: Vec::new(), runs: lists[0].len(), lists };
-        timed.ratios = (1..timed.lists.len()).map(|i| timed.ratio(0, i)).collect();
-        timed
-    }
-
-    /// One to another: the ratio of the medians, and the quartiles of the ratios of neighbouring runs.
-    pub fn ratio(&self, one: usize, other: usize) -> (f64, f64, f64) {
-        let each = sorted(self.lists[one].iter().zip(&self.lists[other]).map(|(a, b)| a / b).collect());
-        (self.medians[one] / self.medians[other], at(&each, 0.25), at(&each, 0.75))
-    }
 }
 
 /// Each is warmed up, then all run in turn until the time is used: at least nine times each, and a run of at least 50 µs.
@@ -78,21 +62,27 @@ pub fn timed(seconds: f64, mut things: Vec<Thing>) -> Timed {
             lists[i].push(thing(times[i]));
         }
     }
-    Timed::of(lists)
+    figures(lists)
 }
 
-/// Things that take long: all in turn, so many times, and once before.
+/// Things that take seconds: all in turn, so many times, and once before.
 pub fn timed_few(runs: usize, mut things: Vec<Thing>) -> Timed {
-    let mut lists: Vec<Vec<f64>> = vec![Vec::new(); things.len()];
-    for run in 0..=runs {
-        for (i, thing) in things.iter_mut().enumerate() {
-            let seconds = thing(1);
-            if run > 0 {
-                lists[i].push(seconds);
-            }
-        }
-    }
-    Timed::of(lists)
+    let mut turn = || things.iter_mut().map(|thing| thing(1)).collect::<Vec<f64>>();
+    turn();
+    let turns: Vec<Vec<f64>> = (0..runs).map(|_| turn()).collect();
+    figures((0..turns[0].len()).map(|i| turns.iter().map(|turn| turn[i]).collect()).collect())
+}
+
+fn figures(lists: Vec<Vec<f64>>) -> Timed {
+    let runs = lists[0].len();
+    let medians: Vec<f64> = lists.iter().map(|list| at(&sorted(list.clone()), 0.5)).collect();
+    let ratios = (1..lists.len())
+        .map(|i| {
+            let each = sorted(lists[0].iter().zip(&lists[i]).map(|(a, b)| a / b).collect());
+            (medians[0] / medians[i], at(&each, 0.25), at(&each, 0.75))
+        })
+        .collect();
+    Timed { medians, ratios, runs }
 }
 
 pub fn shown(ratio: (f64, f64, f64)) -> String {

@@ -68,14 +68,3 @@ pub fn compose_with(maps: &Maps, result: &mut [u32], added: &mut [u32], work: &m
     let (w, wl) = (work.as_mut_ptr(), work.len());
     unsafe { pgk_compose_with(o, ol, 1, on, onl, oe, oel, i, il, inn, innl, ie, iel, r, rl, a, al, w, wl) }
 }
-
-#[rustfmt::skip]
-unsafe extern "C" {
-    fn pgk_compose_with(
-        outer: *const u32, outer_len: usize, outer_sources: u32,
-        outer_names: *const u8, outer_names_len: usize, outer_ends: *const usize, outer_ends_len: usize,
-        inner: *const u32, inner_len: usize,
-        inner_names: *const u8, inner_names_len: usize, inner_ends: *const usize, inner_ends_len: usize,
-        result: *mut u32, result_len: usize, added: *mut u32, added_len: usize, work: *mut u32, work_len: usize,
-    ) -> Composed;
-}

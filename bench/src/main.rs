@@ -615,6 +615,10 @@ fn compose(seconds: f64, corpus: &Path) {
             compose_of(seconds, name, &over(&inner, count, order, few("o")), &inner);
         }
     }
+    let inner = made(8_000, made_names("i", 20));
+    for (name, order) in orders {
+        compose_of(seconds, name, &over(&inner, 8_000, order, made_names("o", 20)), &inner);
+    }
     let inner = made(100_000, made_names("i", 10_000));
     for (name, prefix) in [("rising, other names", "o"), ("rising, equal names", "i")] {
         compose_of(seconds, name, &over(&inner, 100_000, Order::Rising, made_names(prefix, 10_000)), &inner);

@@ -23,19 +23,20 @@ use Rattle.compose.proofs.Tests.{Opens, opens, refuses}
 module _ (m : Maps) (numbers room work : ℕ) where
   pub with-enough : workFor m ≤ work → composedWith m numbers room work ≡ composed m numbers room
   unfolding composedWith
-  with-enough h = by (eqb (codeOf (composed m numbers room .code)) 0)
-    where
-      by : (b : Bool) → pick (both b (ltb work (workFor m))) (refused (Code.NoRoom (workFor m))) (composed m numbers room) ≡ composed m numbers room
-      by true = rw (le-ltb work (workFor m) h)
-      by false = refl
+  with-enough h = rw (le-ltb work (workFor m) h)
 
   pub with-refused : (codeOf (composed m numbers room .code) ≡ 0 → ⊥) → composedWith m numbers room work ≡ composed m numbers room
   unfolding composedWith
-  with-refused n = rw (ne-eqb (codeOf (composed m numbers room .code)) 0 n)
+  with-refused n = by (ltb work (workFor m))
+    where
+      by : (t : Bool)
+          → pick (both t (eqb (codeOf (composed m numbers room .code)) 0)) (refused (Code.NoRoom (workFor m))) (composed m numbers room) ≡ composed m numbers room
+      by true = rw (ne-eqb (codeOf (composed m numbers room .code)) 0 n)
+      by false = refl
 
   pub with-less : codeOf (composed m numbers room .code) ≡ 0 → ltb work (workFor m) ≡ true → composedWith m numbers room work ≡ refused (Code.NoRoom (workFor m))
   unfolding composedWith
-  with-less e h = rw (eq-eqb (codeOf (composed m numbers room .code)) 0 e, h)
+  with-less e h = rw (h, eq-eqb (codeOf (composed m numbers room .code)) 0 e)
 
 -- ---- a whole answer, from its code
 module _ (m : Maps) (result added work : List ℕ) (x : Composed) where

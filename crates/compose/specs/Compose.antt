@@ -105,7 +105,7 @@ workFor m = 2 * count (m .innerNames) + 3 * count (m .outerNames)
 -- the same tests and the same answer; last of all, whether there are so many places
 unfoldable pub composedWith : Maps → ℕ → ℕ → ℕ → Composed
 composedWith m numbers room work =
-    pick (both (eqb (codeOf (composed m numbers room .code)) 0) (ltb work (workFor m))) (refused (Code.NoRoom (workFor m)))
+    pick (both (ltb work (workFor m)) (eqb (codeOf (composed m numbers room .code)) 0)) (refused (Code.NoRoom (workFor m)))
     (composed m numbers room)
 
 -- the answer, and what the lent result and the lent list hold then; the working memory is as it was where it is refused, and else left open

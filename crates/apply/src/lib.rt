@@ -1,4 +1,6 @@
 // What one segment does to the running numbers: steps 1 to 5 of docs/RULES.md, Mappings, in its order.
+#![tactic(auto)]
+
 ghost use Rattle.std.specs.Prelude.{◌≡◌};
 ghost use Rattle.apply.specs.Apply.{columned, mapped, named, shown, four, five, counted, applied};
 ghost use Rattle.apply.specs.Small.{Small};

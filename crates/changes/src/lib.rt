@@ -1,4 +1,6 @@
 // Two sorted tables walked side by side: one turn, and the entry that it gives.
+#![tactic(auto)]
+
 ghost use Rattle.std.specs.Prelude.{◌≡◌, [], ◌∷◌, ◌+◌, ◌≤◌, length};
 ghost use Rattle.list.specs.Put.{Put};
 ghost use Rattle.changes.specs.Changes.{agree, listed};

@@ -1,4 +1,6 @@
 // Whether a table meets the premises of checked mode too: what is written then reads back in both modes.
+#![tactic(auto)]
+
 ghost use Rattle.std.specs.Prelude.{◌≡◌};
 ghost use Rattle.vlq_write.specs.Write.{vlq_value};
 ghost use Rattle.chunk.specs.Chunk.{fresh, fields_of};

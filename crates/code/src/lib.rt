@@ -1,4 +1,6 @@
 // The codes of docs/RULES.md: what an entry says of its input, and the number that goes with it.
+#![tactic(auto)]
+
 ghost use Rattle.std.specs.Prelude.{◌≡◌};
 ghost use Rattle.code.specs.Code.{code_of, number_of};
 ghost use Rattle.code.specs.Narrow.{rank_of, narrow_of};

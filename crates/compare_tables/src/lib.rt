@@ -1,4 +1,6 @@
 // What changed between two tables that are sorted by line and column: every difference once, in order of position.
+#![tactic(auto)]
+
 ghost use Rattle.std.specs.Prelude.{◌≡◌, ◌≤◌, length};
 ghost use Rattle.list.specs.Memory.{onto};
 ghost use Rattle.changes.specs.Changes.{changes, listed};

@@ -1,4 +1,6 @@
 // Composes an outer map with the map of its input.
+#![tactic(auto)]
+
 ghost use Rattle.std.specs.Prelude.{◌≡◌, true, false, [], ◌<◌, ltb, length};
 ghost use Rattle.list.specs.Pick.{both};
 ghost use Rattle.token.specs.Table.{bad_table, tokens_of};

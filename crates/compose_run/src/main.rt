@@ -1,5 +1,7 @@
 // Composes maps whose answers are written down: the code, its number and the count of added names, the lent result and
 // the lent list of added names, and for each id whether its name exists, where it stands and its bytes.
+#![tactic(auto)]
+
 ghost use Rattle.std.specs.Prelude.{◌≤◌, length};
 
 use compose::Composed;

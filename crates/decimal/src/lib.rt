@@ -1,4 +1,6 @@
 // Numbers in decimal, written into lent bytes.
+#![tactic(auto)]
+
 ghost use Rattle.std.specs.Prelude.{◌≡◌, ◌+◌, ◌≤◌, ◌<◌, length};
 ghost use Rattle.list.specs.Put.{Put};
 ghost use Rattle.decimal.specs.Decimal.{figures_of, figure as Decimal·figure};

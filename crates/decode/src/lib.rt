@@ -2,6 +2,8 @@
 //
 // The entries take every text and every table. A refusal keeps the tokens before the refused segment; the rest of the table,
 // and the numbers past its last whole token, are as at entry.
+#![tactic(auto)]
+
 ghost use Rattle.std.specs.Prelude.{◌≡◌};
 ghost use Rattle.step.specs.Step.{start};
 ghost use Rattle.decode.specs.Mapping.{by_default, Decodes};

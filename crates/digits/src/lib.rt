@@ -1,4 +1,6 @@
 // The sixty-four characters: what each byte reads as, and what each digit is written as.
+#![tactic(auto)]
+
 ghost use Rattle.std.specs.Prelude.{◌≡◌, ◌+◌, ◌<◌, ◌≤◌, length, get_or};
 ghost use Rattle.digits.specs.Digits.{class_of, char_of, is_delim};
 ghost use Rattle.digits.specs.Tables.{word, writing};

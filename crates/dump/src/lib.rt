@@ -1,6 +1,8 @@
 // The work of dumpmap: what is printed for an input is rendered into bytes, and these are handed to standard output.
 //
 // `render` says in full what is printed, of every input. Of the one call that hands the bytes over no contract can speak.
+#![tactic(auto)]
+
 ghost use Rattle.std.specs.Prelude.{◌≡◌, ◌≤◌, length};
 ghost use Rattle.value.specs.declared.Mode.{Mode};
 ghost use Rattle.decode.specs.Mapping.{decoded};

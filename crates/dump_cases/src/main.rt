@@ -1,4 +1,6 @@
 // Dumps many inputs, each given as a line with its number and its length and then so many bytes.
+#![tactic(auto)]
+
 ghost use Rattle.std.specs.Prelude.{◌≤◌, length};
 
 use first_line::FirstLine;

@@ -1,4 +1,6 @@
 // One byte more than dumpmap takes.
+#![tactic(auto)]
+
 fn main() {
     dump::dump_stdin();
 }

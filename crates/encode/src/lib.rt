@@ -1,4 +1,6 @@
 // Writes a chunk of a token table as text, into lent bytes.
+#![tactic(auto)]
+
 ghost use Rattle.std.specs.Prelude.{◌≡◌};
 ghost use Rattle.digits.specs.Tables.{writing};
 ghost use Rattle.vlq_write.specs.Near.{near_writing};

@@ -1,4 +1,6 @@
 // The first line of an input: two counts, one space between, a newline.
+#![tactic(auto)]
+
 ghost use Rattle.std.specs.Prelude.{◌≡◌};
 ghost use Rattle.first_line.specs.FirstLine.{Reads};
 ghost use Rattle.first_line.specs.Reading.{is_figure, ended_at, number_at, second};

@@ -1,4 +1,6 @@
 // The lines that dumpmap prints, written into lent bytes: each function writes from a place on, and gives the place after.
+#![tactic(auto)]
+
 ghost use Rattle.std.specs.Prelude.{[], ◌∷◌, ◌++◌, ◌+◌, ◌*◌, ◌≤◌, length};
 ghost use Rattle.list.specs.Put.{Put};
 ghost use Rattle.token.specs.Table.{places, tokens_from};

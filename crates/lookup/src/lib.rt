@@ -1,4 +1,6 @@
 // Finds the token at a generated position.
+#![tactic(auto)]
+
 ghost use Rattle.std.specs.Prelude.{◌≡◌, false, ◌<◌, eqb, leb, length};
 ghost use Rattle.list.specs.Pick.{both};
 ghost use Rattle.token.specs.Table.{bad_table, places, token_at};

@@ -1,4 +1,6 @@
 // Finds the tokens at many generated positions, with the table read once.
+#![tactic(auto)]
+
 ghost use Rattle.std.specs.Prelude.{◌≡◌, false, ◌<◌, ◌≤◌, length};
 ghost use Rattle.token.specs.Table.{places, bad_table};
 ghost use Rattle.lookup.specs.Lookup.{best_of};

@@ -1,4 +1,6 @@
 // Finds the tokens at many generated positions: where the table is sorted by halving, else as lookup_many does.
+#![tactic(auto)]
+
 ghost use Rattle.std.specs.Prelude.{◌≡◌, false, ◌-◌, ◌*◌, ◌/◌, ◌<◌, ◌≤◌, length};
 ghost use Rattle.token.specs.Table.{places, bad_table};
 ghost use Rattle.order.specs.Keys.{Rising};

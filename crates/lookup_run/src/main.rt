@@ -1,4 +1,6 @@
 // Looks positions up in small tables and prints each answer, its code and its number, on a line.
+#![tactic(auto)]
+
 use token::Token;
 
 // Stores a token at a line and a column, where the table has a place for it.

@@ -1,4 +1,6 @@
 // The id of an outer name in a composed map.
+#![tactic(auto)]
+
 ghost use Rattle.std.specs.Prelude.{◌≡◌, true, ℕ, ◌<◌, length, get_or};
 ghost use Rattle.names.specs.Names.{name_list, begin_of, sound, name_at, same};
 ghost use Rattle.name_ids.specs.NameIds.{first_name, first_added, outer_named};

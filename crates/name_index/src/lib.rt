@@ -1,4 +1,6 @@
 // The id of an outer name in a composed map, by an index that is made in lent memory once a call.
+#![tactic(auto)]
+
 ghost use Rattle.std.specs.Prelude.{◌≡◌, true, [], ℕ, ◌+◌, ◌<◌, ◌≤◌, length, get_or, set};
 ghost use Rattle.names.specs.Names.{name_list, sound, same};
 ghost use Rattle.name_ids.specs.NameIds.{outer_named};

@@ -1,4 +1,6 @@
 // Name lists: a lent text and the 64-bit offsets where its names end.
+#![tactic(auto)]
+
 ghost use Rattle.std.specs.Prelude.{◌≡◌, true, ◌<◌, ◌≤◌, length};
 ghost use Rattle.names.specs.Names.{name_list, begin_of, sound, name_at, same, exists, place_of, name_of};
 

@@ -1,4 +1,6 @@
 // Where tokens stand, by line and then column, and whether a table is sorted so.
+#![tactic(auto)]
+
 ghost use Rattle.std.specs.Prelude.{◌≡◌, ◌*◌, ◌<◌, ◌≤◌, length};
 ghost use Rattle.token.specs.Table.{places};
 ghost use Rattle.order.specs.Order.{sorted, first_fall};

@@ -1,4 +1,6 @@
 // Every public entry, exported under its C name. Each answers what the entry behind it answers, a code as its two numbers.
+#![tactic(auto)]
+
 ghost use Rattle.std.specs.Prelude.{◌≡◌};
 ghost use Rattle.value.specs.declared.Mode.{Mode};
 ghost use Rattle.names.specs.Names.{name_list, place_of};

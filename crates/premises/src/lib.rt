@@ -1,4 +1,6 @@
 // Whether a table meets the premises under which what is written reads back.
+#![tactic(auto)]
+
 ghost use Rattle.std.specs.Prelude.{◌≡◌};
 ghost use Rattle.list.specs.Pick.{pick};
 ghost use Rattle.token.specs.Table.{is_none};

@@ -1,1 +1,3 @@
 // What the library owes, as theorems over the definitions that the contracts cite. No code.
+#![tactic(auto)]
+

@@ -1,4 +1,6 @@
 // The same translation over a lent slice of token records: each replaced by its translation, or all left and refused.
+#![tactic(auto)]
+
 ghost use Rattle.records.specs.Records.{TranslatesRecords};
 
 use token::{MOST, Token};

@@ -1,4 +1,6 @@
 // Recorded answers as text: lines of numbers and lines of bytes, in a block of bytes.
+#![tactic(auto)]
+
 ghost use Rattle.std.specs.Prelude.{◌≡◌, ◌<◌, ◌≤◌, length};
 ghost use Rattle.io.specs.Counts.{IsPrefixLen};
 

@@ -2,6 +2,8 @@
 //
 // A line that begins with `#` names the group of records after it. A record is two lines: a letter for the entry and numbers, and
 // then a text or more numbers. Other lines are empty. The input is read in blocks of 4,096 bytes, and no record lies across two.
+#![tactic(auto)]
+
 ghost use Rattle.std.specs.Prelude.{◌≤◌, length};
 
 use replay::Tally;

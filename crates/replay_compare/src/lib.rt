@@ -1,4 +1,6 @@
 // A recorded answer of comparing two tables, held to what the library gives.
+#![tactic(auto)]
+
 ghost use Rattle.std.specs.Prelude.{◌≤◌, length};
 
 // Into the first places of some that are sevens.

@@ -3,6 +3,8 @@
 // The numbers: sources; how many outer numbers, inner numbers, outer names and inner names; the bytes of the outer names. Then the
 // outer tokens, the inner tokens, the result's tokens, the outer ends, the inner ends and the added names. The text has the outer
 // names and then the inner names.
+#![tactic(auto)]
+
 ghost use Rattle.std.specs.Prelude.{◌<◌, ◌≤◌, ◌≡◌, length};
 ghost use Rattle.io.specs.Counts.{IsPrefixLen};
 

@@ -1,4 +1,6 @@
 // A recorded answer of decoding, held to what the library gives.
+#![tactic(auto)]
+
 ghost use Rattle.std.specs.Prelude.{◌≤◌, length};
 
 // Into the first numbers of a table that holds sevens.

@@ -1,4 +1,6 @@
 // A recorded answer of writing, held to what the library gives.
+#![tactic(auto)]
+
 ghost use Rattle.std.specs.Prelude.{◌≤◌, ◌≡◌, length};
 
 use token::TokenChunk;

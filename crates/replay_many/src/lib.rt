@@ -1,4 +1,6 @@
 // A recorded answer of looking up many positions, held to what the library gives, by either call.
+#![tactic(auto)]
+
 ghost use Rattle.std.specs.Prelude.{◌≤◌, length};
 
 use code::Code;

@@ -1,5 +1,7 @@
 // Demand 3 of docs/RULES.md, running: writes a table in chunks of every size, joins the bytes, decodes them in both modes and compares.
 // It does so with two tables: the first has a step to a source column that is too wide for checked mode, the second has none.
+#![tactic(auto)]
+
 use token::{Token, TokenChunk};
 
 // The source column of token k.

@@ -1,4 +1,6 @@
 // Finds the tokens at positions that come one after another: in a sorted table by halving, near the last place first.
+#![tactic(auto)]
+
 ghost use Rattle.std.specs.Prelude.{◌≡◌, true, false, length};
 ghost use Rattle.token.specs.Table.{bad_table};
 ghost use Rattle.order.specs.Keys.{Rising};

@@ -1,4 +1,6 @@
 // Reads the values of one segment, all of them, before anything is tested.
+#![tactic(auto)]
+
 ghost use Rattle.std.specs.Prelude.{◌≡◌, drop};
 ghost use Rattle.segment.specs.Segment.{broken_at, segment_at};
 ghost use Rattle.segment.specs.Fields.{judged_to, parsed_at, place_from, widened};

@@ -1,6 +1,8 @@
 // The short way: a segment of four or five values, of which the first three have one digit each and the others up to four, the
 // second is 0 and none is minus zero, as most are. Its tests are sufficient and no more: whatever fails one of them, and every
 // refusal, is left to the general way.
+#![tactic(auto)]
+
 ghost use Rattle.std.specs.Prelude.{◌≡◌, ◌+◌, ◌-◌, ◌*◌, ◌^◌, ◌<◌, ◌≤◌, true, length, ◌==◌, nat_lt, slice_index};
 ghost use Rattle.list.specs.Pick.{pick};
 ghost use Rattle.short.specs.Short.{Bytes, Ones, Stepping, Reading, move_of, Three, Shaped, Stepped, Nears, Fit};

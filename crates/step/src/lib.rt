@@ -1,4 +1,6 @@
 // The next token of a text: delimiters are passed, and a segment is taken, by the short way where that can be done.
+#![tactic(auto)]
+
 ghost use Rattle.std.specs.Prelude.{◌≡◌, ◌+◌, ◌<◌, ◌^◌, length, eqb};
 ghost use Rattle.list.specs.Pick.{pick};
 ghost use Rattle.token.specs.Table.{no_id};

@@ -1,5 +1,7 @@
 // A running number and a value: the sum, and what each mode makes of it. A sum is its 64 bits: one that is not below 0 is that
 // number, and a negative one lies at 2^63 or above.
+#![tactic(auto)]
+
 ghost use Rattle.std.specs.Prelude.{◌≡◌, ◌^◌, ◌≤◌, pos, ◌+ℤ◌, unsigned_abs};
 ghost use Rattle.value.specs.Value.{as_signed};
 ghost use Rattle.sums.specs.Sums.{sum_of, id_of, name_sum_of, widest_of};

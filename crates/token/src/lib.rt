@@ -1,4 +1,6 @@
 // Tokens and the lent tables that hold them, and the state that goes from chunk to chunk of a writer.
+#![tactic(auto)]
+
 ghost use Rattle.std.specs.Prelude.{◌≡◌, ◌<◌, length};
 ghost use Rattle.token.specs.Table.{with_segment, places, bad_table, token_at, put_token};
 

@@ -1,4 +1,6 @@
 // Moves tokens by a line offset and two id offsets.
+#![tactic(auto)]
+
 ghost use Rattle.std.specs.Prelude.{◌≡◌, true, false, length};
 ghost use Rattle.std.proofs.Math.Option.{none};
 ghost use Rattle.token.specs.Table.{tokens_of, over};

@@ -1,4 +1,6 @@
 // The value rule: from the number that digits make, as its low 64 bits and the bit above them, to the value.
+#![tactic(auto)]
+
 ghost use Rattle.std.specs.Prelude.{◌≡◌, ◌+◌, ◌*◌, ◌^◌};
 ghost use Rattle.value.specs.Standard.{signed};
 ghost use Rattle.value.specs.Value.{as_signed, sign_of, value_of};

@@ -1,4 +1,6 @@
 // Reads the digits of one value.
+#![tactic(auto)]
+
 ghost use Rattle.std.specs.Prelude.{◌≡◌, ◌+◌, ◌*◌, ◌/◌, ◌%◌, ◌^◌, ◌<◌, ◌≤◌, eqb, length};
 ghost use Rattle.list.specs.Pick.{pick};
 ghost use Rattle.vlq.specs.Vlq.{vlq_at};

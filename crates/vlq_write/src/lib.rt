@@ -1,4 +1,6 @@
 // Writes one value in the fewest digits.
+#![tactic(auto)]
+
 ghost use Rattle.std.specs.Prelude.{◌≡◌, ◌+◌, ◌-◌, ◌^◌, ◌<◌, ◌≤◌, length, ◌==◌, nat_lt};
 ghost use Rattle.list.specs.Pick.{pick};
 ghost use Rattle.digits.specs.Digits.{char_of};

@@ -1,5 +1,7 @@
 // Decodes the worked texts of docs/RULES.md in both modes: for each mode a line with the code, the number with it, how many tokens
 // were written and the offset, and then the tokens.
+#![tactic(auto)]
+
 ghost use Rattle.std.specs.Prelude.{◌≤◌};
 
 use decode::Decoded;

@@ -1,4 +1,6 @@
 // Runs the writer on the tables of docs/RULES.md's worked texts, whole, cut and refused, and prints what it wrote.
+#![tactic(auto)]
+
 use token::TokenChunk;
 
 // The tokens from `start` up to `end`, after a token on `line`, and zeros else.

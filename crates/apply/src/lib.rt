@@ -13,7 +13,7 @@ use value::Mode;
 
 // The six running numbers, and the place in the text. In this order the compiler makes no pair of them, and decode's loop has
 // fewer instructions.
-#[derive(Drop)]
+#[derive(Clone, Copy)]
 pub struct State {
     pub dst_line: u32,
     pub src_line: u32,
@@ -25,20 +25,20 @@ pub struct State {
 }
 
 // What a refusal is about: the whole segment, one of its first five fields, or the place where a value broke.
-#[derive(Drop)]
+#[derive(Clone, Copy)]
 pub enum About {
     Whole,
     Field(u32),
     Place(usize),
 }
 
-#[derive(Drop)]
+#[derive(Clone, Copy)]
 pub enum Moved {
     To(State),
     No(Code, About),
 }
 
-#[derive(Drop)]
+#[derive(Clone, Copy)]
 pub enum Applied {
     Took(Token, State),
     Refused(Code, About),

@@ -9,7 +9,7 @@ ghost use Rattle.changes.specs.Turns.{entry_of, turn_of, Ahead, Turns};
 use token::{NONE, Token};
 
 // What the next tokens of both tables give: no entry, or one.
-#[derive(Drop)]
+#[derive(Clone, Copy)]
 pub enum Kind {
     Same,
     OnlyLeft,
@@ -18,7 +18,7 @@ pub enum Kind {
 }
 
 // The kind of the entry, and where both tables go on.
-#[derive(Drop)]
+#[derive(Clone, Copy)]
 pub struct Turn {
     pub kind: Kind,
     pub i: usize,

@@ -5,7 +5,7 @@ ghost use Rattle.std.specs.Prelude.{◌≡◌};
 ghost use Rattle.code.specs.Code.{code_of, number_of};
 ghost use Rattle.code.specs.Narrow.{rank_of, narrow_of};
 
-#[derive(Drop)]
+#[derive(Clone, Copy)]
 pub enum Code {
     Done,
     VlqLeftover,

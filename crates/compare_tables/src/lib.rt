@@ -10,7 +10,7 @@ ghost use Rattle.compare_tables.specs.Walks.{Walks, Counts};
 use code::Code;
 
 // The code, and how many entries there are, three numbers each; 0 for a refusal.
-#[derive(Drop)]
+#[derive(Clone, Copy)]
 pub struct Compared {
     pub code: Code,
     pub entries: usize,

@@ -15,14 +15,14 @@ use name_ids::NameId;
 use token::Token;
 
 // The code, and how many outer names were added; 0 for a refusal.
-#[derive(Drop)]
+#[derive(Clone, Copy)]
 pub struct Composed {
     pub code: Code,
     pub added: usize,
 }
 
 // A token of the result: whether it asks for its outer name, which it has not yet, and the place that the next lookup begins at.
-#[derive(Drop)]
+#[derive(Clone, Copy)]
 struct Half {
     token: Token,
     asks: bool,
@@ -30,7 +30,7 @@ struct Half {
 }
 
 // How many names were added, and the last outer name id that was asked for, with the id that it was given.
-#[derive(Drop)]
+#[derive(Clone, Copy)]
 struct Known {
     count: usize,
     last: u32,

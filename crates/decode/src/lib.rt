@@ -15,7 +15,7 @@ use step::Step;
 use value::Mode;
 
 // The code; how many tokens were written; and where the fault lies, or the text's length when done.
-#[derive(Drop)]
+#[derive(Clone, Copy)]
 pub struct Decoded {
     pub code: Code,
     pub tokens: usize,

@@ -11,7 +11,7 @@ use code::Code;
 use token::TokenChunk;
 
 // The code; the bytes written, 0 for a refusal; and the chunk's end state, or the chunk as it was given for a refusal.
-#[derive(Drop)]
+#[derive(Clone, Copy)]
 pub struct Encoded {
     pub code: Code,
     pub bytes: usize,
@@ -19,14 +19,14 @@ pub struct Encoded {
 }
 
 // The first token whose line goes back, or the line of the last.
-#[derive(Drop)]
+#[derive(Clone, Copy)]
 enum Order {
     Back(u32),
     Forth(u32),
 }
 
 // The first token whose line goes back, or the bytes that are needed.
-#[derive(Drop)]
+#[derive(Clone, Copy)]
 enum Count {
     Back(u32),
     Needs(u64),

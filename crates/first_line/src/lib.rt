@@ -6,14 +6,14 @@ ghost use Rattle.first_line.specs.FirstLine.{Reads};
 ghost use Rattle.first_line.specs.Reading.{is_figure, ended_at, number_at, second};
 
 // The counts of sources and of names, and where the text begins.
-#[derive(Drop)]
+#[derive(Clone, Copy)]
 pub enum FirstLine {
     Counts(u32, u32, usize),
     Bad,
 }
 
 // A count, and where what follows its stop byte begins.
-#[derive(Drop)]
+#[derive(Clone, Copy)]
 enum Number {
     Value(u32, usize),
     Bad,

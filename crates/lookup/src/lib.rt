@@ -10,7 +10,7 @@ ghost use Rattle.lookup.specs.Parts.{Between, index_of};
 use token::NONE;
 
 // The index of the token that is found, or why there is none.
-#[derive(Drop)]
+#[derive(Clone, Copy)]
 pub enum Found {
     At(u32),
     Nothing,

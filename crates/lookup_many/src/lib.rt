@@ -16,14 +16,14 @@ use token::NONE;
 const BLOCK: usize = 64;
 
 // A position that is asked for.
-#[derive(Drop)]
+#[derive(Clone, Copy)]
 pub struct Pair {
     pub line: u32,
     pub col: u32,
 }
 
 // Of tokens that are looked at together: the least and the greatest of their positions, and the latest token at the greatest.
-#[derive(Drop)]
+#[derive(Clone, Copy)]
 struct Block {
     least: u64,
     most: u64,

@@ -7,14 +7,14 @@ ghost use Rattle.name_ids.specs.NameIds.{first_name, first_added, outer_named};
 ghost use Rattle.name_ids.specs.Answers.{search_of, named_by, Searchable};
 
 // At which place a name was found.
-#[derive(Drop)]
+#[derive(Clone, Copy)]
 pub enum Search {
     At(usize),
     Nothing,
 }
 
 // The id of an outer name in the result, and whether the name is new there.
-#[derive(Drop)]
+#[derive(Clone, Copy)]
 pub struct NameId {
     pub id: u32,
     pub adds: bool,

@@ -8,7 +8,7 @@ ghost use Rattle.names.specs.Names.{name_list, begin_of, sound, name_at, same, e
 pub const MOST: usize = 2147483647;
 
 // Where the name of an id stands: whether it exists, in the outer text or the inner one, and from where to where.
-#[derive(Drop)]
+#[derive(Clone, Copy)]
 pub struct NamePlace {
     pub found: bool,
     pub outer: bool,

@@ -28,7 +28,7 @@ use token::{Token, TokenChunk};
 
 // A decode's code and number, how many tokens it wrote, and the offset.
 #[repr(C)]
-#[derive(Drop)]
+#[derive(Clone, Copy)]
 pub struct DecodedOut {
     pub code: u64,
     pub number: u64,
@@ -38,7 +38,7 @@ pub struct DecodedOut {
 
 // A writer's code and number, the bytes it wrote, and the state for the next chunk.
 #[repr(C)]
-#[derive(Drop)]
+#[derive(Clone, Copy)]
 pub struct EncodedOut {
     pub code: u64,
     pub number: u64,
@@ -48,7 +48,7 @@ pub struct EncodedOut {
 
 // A comparison's code and number, and how many entries there are.
 #[repr(C)]
-#[derive(Drop)]
+#[derive(Clone, Copy)]
 pub struct ComparedOut {
     pub code: u64,
     pub number: u64,
@@ -57,7 +57,7 @@ pub struct ComparedOut {
 
 // A composition's code and number, and how many outer names were added.
 #[repr(C)]
-#[derive(Drop)]
+#[derive(Clone, Copy)]
 pub struct ComposedOut {
     pub code: u64,
     pub number: u64,
@@ -66,7 +66,7 @@ pub struct ComposedOut {
 
 // Where a name stands: found 0 and zeros, or found 1 and a part of the inner text (outer 0) or the outer one (outer 1).
 #[repr(C)]
-#[derive(Drop)]
+#[derive(Clone, Copy)]
 pub struct NameOut {
     pub found: u64,
     pub outer: u64,

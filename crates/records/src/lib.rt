@@ -7,7 +7,7 @@ use token::{MOST, Token};
 
 // A code and its number, as they go out to another language.
 #[repr(C)]
-#[derive(Drop)]
+#[derive(Clone, Copy)]
 pub struct Answer {
     pub code: u64,
     pub number: u64,

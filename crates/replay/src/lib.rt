@@ -7,14 +7,14 @@ ghost use Rattle.io.specs.Counts.{IsPrefixLen};
 use code::Code;
 
 // A number, and where the next one begins.
-#[derive(Drop)]
+#[derive(Clone, Copy)]
 struct Number {
     value: u32,
     next: usize,
 }
 
 // Records met in a group and those that agreed; whether a group was begun.
-#[derive(Drop)]
+#[derive(Clone, Copy)]
 pub struct Tally {
     pub records: u64,
     pub agreed: u64,

@@ -9,7 +9,7 @@ ghost use Rattle.std.specs.Prelude.{◌≤◌, length};
 use replay::Tally;
 
 // The place after a record, and the counts with it.
-#[derive(Drop)]
+#[derive(Clone, Copy)]
 struct Passed {
     next: usize,
     tally: Tally,
@@ -78,7 +78,7 @@ fn in_block(block: &[u8], tally: Tally) -> Tally {
 }
 
 // A block's counts, and whether there was one.
-#[derive(Drop)]
+#[derive(Clone, Copy)]
 struct Block {
     tally: Tally,
     more: bool,

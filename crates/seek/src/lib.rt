@@ -13,14 +13,14 @@ use token::NONE;
 const NEAR: usize = 16;
 
 // So many tokens from the one at `base` on.
-#[derive(Drop)]
+#[derive(Clone, Copy)]
 struct Part {
     base: usize,
     size: usize,
 }
 
 // The index of the token that is found, NONE where there is none, and the place that the next position is sought from.
-#[derive(Drop)]
+#[derive(Clone, Copy)]
 pub struct Sought {
     pub at: u32,
     pub place: usize,

@@ -9,7 +9,7 @@ use value::{Judged, Mode};
 use vlq::Vlq;
 
 // How a segment ended: with a delimiter or the text, or where a value broke.
-#[derive(Drop)]
+#[derive(Clone, Copy)]
 pub enum Ending {
     Whole,
     Leftover(usize),
@@ -18,7 +18,7 @@ pub enum Ending {
 
 // The first five values, 0 where there are fewer; the first of them that is too wide, 5 where none is; how many there are; and the
 // place after them.
-#[derive(Drop)]
+#[derive(Clone, Copy)]
 pub struct Segment {
     pub end: Ending,
     pub nums: [i64; 5],
@@ -29,7 +29,7 @@ pub struct Segment {
 
 // What stands at a place of the text: nothing more of its segment; a value and the place after it; one that is too wide, and the place
 // after it; or where it broke.
-#[derive(Drop)]
+#[derive(Clone, Copy)]
 enum Parsed {
     End,
     Value(i64, usize),

@@ -12,7 +12,7 @@ use apply::State;
 // How many fields there are, 0 where they are perhaps not of this shape, and how many bytes they take. A step is 16 more than a
 // value: in `steps` a byte for the first field and, as its third byte, one for the third; `col` for the fourth and `name` for the
 // fifth, both modulo 2^64; 16 for the fifth where there are four.
-#[derive(Drop)]
+#[derive(Clone, Copy)]
 pub struct Shape {
     pub fields: usize,
     pub len: usize,
@@ -22,7 +22,7 @@ pub struct Shape {
 }
 
 // The five running numbers after these values; 2^32 or more where a sum leaves 0 to 4,294,967,295.
-#[derive(Drop)]
+#[derive(Clone, Copy)]
 pub struct Near {
     pub dst_col: u64,
     pub source_id: u64,

@@ -18,7 +18,7 @@ use value::Mode;
 
 // The next token with its segment's start and the state after it; a refusal with its offset; or the end. The token says its segment's
 // start as well, modulo 2^32: whoever places it looks first whether that is the start.
-#[derive(Drop)]
+#[derive(Clone, Copy)]
 pub enum Step {
     Put(Token, usize, State),
     Refuse(Code, usize),

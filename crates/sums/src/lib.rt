@@ -9,14 +9,14 @@ ghost use Rattle.sums.specs.Sums.{sum_of, id_of, name_sum_of, widest_of};
 use value::Mode;
 
 // A sum as it is kept, or why it is not.
-#[derive(Drop)]
+#[derive(Clone, Copy)]
 pub enum Kept {
     Negative,
     Wide,
     At(u32),
 }
 
-#[derive(Drop)]
+#[derive(Clone, Copy)]
 pub enum Id {
     Outside,
     Is(u32),

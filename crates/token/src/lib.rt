@@ -15,7 +15,7 @@ pub const MOST: usize = 4294967294;
 
 // `segment` is where the token's segment begins, a byte of the text that it was decoded from.
 #[repr(C)]
-#[derive(Drop)]
+#[derive(Clone, Copy)]
 pub struct Token {
     pub dst_line: u32,
     pub dst_col: u32,
@@ -28,7 +28,7 @@ pub struct Token {
 
 // A part of a table, from `start` up to `end`, and the numbers that its first token is counted from.
 #[repr(C)]
-#[derive(Drop)]
+#[derive(Clone, Copy)]
 pub struct TokenChunk {
     pub start: u32,
     pub end: u32,

@@ -11,7 +11,7 @@ use code::Code;
 use token::{NONE, Token};
 
 // Lies over some tokens: none has a line past its line, or an id past its source or name. Ids are counted from 1, so that none is 0.
-#[derive(Drop)]
+#[derive(Clone, Copy)]
 pub struct Cover {
     pub line: u32,
     pub source: u32,

@@ -6,14 +6,14 @@ ghost use Rattle.value.specs.Standard.{signed};
 ghost use Rattle.value.specs.Value.{as_signed, sign_of, value_of};
 
 // How a text is judged. Lenient is the crate's way; checked takes each value by ECMA-426 and refuses what lenient reduces modulo 2^32.
-#[derive(Drop)]
+#[derive(Clone, Copy)]
 pub enum Mode {
     Lenient,
     Checked,
 }
 
 // What a value's digits say: a number, or that it is too wide to be one.
-#[derive(Drop)]
+#[derive(Clone, Copy)]
 pub enum Judged {
     Is(i64),
     Wide,

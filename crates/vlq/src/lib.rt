@@ -8,7 +8,7 @@ ghost use Rattle.vlq.specs.Several.{FewAt, FewIn, Plain, each, end_of, high_of, 
 
 // What stands at a place of the text: nothing more of its segment; a number, as its low 64 bits, the bit above them and
 // the place after it; or no number, with the place where it broke.
-#[derive(Drop)]
+#[derive(Clone, Copy)]
 pub enum Vlq {
     End,
     Value(u64, u64, usize),
@@ -42,7 +42,7 @@ fn put_digit(cur: u64, k: u64, d: u64) -> u64
 }
 
 // A number of few digits: its bits and how many they are, 0 where that is not known.
-#[derive(Drop)]
+#[derive(Clone, Copy)]
 pub struct Few {
     pub bits: u64,
     pub count: usize,

@@ -1,0 +1,31 @@
+-- `premises::meets_premises` meets its contract. The invariant: what is left of the table decides the whole. Assumes nothing.
+use Prim.Native.Nat.{◌-◌}
+use native.Mathlib.Omega.{arith}
+use Rattle.premises.proofs.Laws.{says_no, says_yes, refuses, begin, ends, stops, goes_on}
+use mathlib.Core.Path.{ap}
+use mathlib.Core.Bool.{not}
+use Rattle.premises.proofs.meets_premises.Goals as goal
+
+pub returns-then-bad_table : goal.returns-then-bad_table
+returns-then-bad_table c = says_no _ _ _ (refuses _ _ _ _ c.bad_table.ensures c.if-bad_table.true)
+
+pub loop-i-init : goal.loop-i-init
+loop-i-init c = begin _ _ _ _ c.bad_table.ensures c.if-bad_table.false
+
+pub token_at-t-requires : goal.token_at-t-requires
+token_at-t-requires c = omega (arith, c.places_in-count.ensures)
+
+pub returns-then-not-follows_ok : goal.returns-then-not-follows_ok
+returns-then-not-follows_ok c = says_no _ _ _ (stops _ _ _ _ _ _ _ c.loop-i.invariant _ c.places_in-count.ensures c.loop-i-test.true _ c.token_at-t.ensures _ c.follows_ok.ensures (ap not c.if-not-follows_ok.true))
+
+pub overflow_add-i : goal.overflow_add-i
+overflow_add-i c = omega arith
+
+pub loop-i-smaller : goal.loop-i-smaller
+loop-i-smaller c = omega arith
+
+pub loop-i-preserved : goal.loop-i-preserved
+loop-i-preserved c = goes_on _ _ _ _ _ _ _ c.loop-i.invariant _ c.places_in-count.ensures c.loop-i-test.true _ c.token_at-t.ensures _ c.follows_ok.ensures (ap not c.if-not-follows_ok.false) _ _ c.latest-src_line.ensures c.latest-src_col.ensures
+
+pub returns : goal.returns
+returns c = says_yes _ _ _ (λ i. omega (arith, c.shared_slice_known-1.given i)) (ends _ _ _ _ _ _ _ c.loop-i.invariant _ c.places_in-count.ensures c.loop-i-test.false)

@@ -1,0 +1,8 @@
+use Rattle.vlq_write.proofs.Loop.{Writing}
+use Rattle.vlq_write.proofs.encode_vlq.Given as goal
+
+abbrev pub invariant-loop-n : goal.invariant-loop-n
+invariant-loop-n l = Writing l.initial.out l.at l.num l.out l.n l.i
+
+abbrev pub decreases-loop-n : goal.decreases-loop-n
+decreases-loop-n l = l.n

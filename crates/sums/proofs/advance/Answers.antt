@@ -5,21 +5,18 @@ use Rattle.sums.proofs.advance.Goals as goal
 
 pub returns-then-sum-widest : goal.returns-then-sum-widest
 returns-then-sum-widest c =
-    let s = c.before.before in
-    let a = s.before.args in
-    kept a.base a.v s.before.ranges.v s.sum_of.result (omega arith) s.sum_of.ensures a.mode _
+    let a = c.args in
+    kept a.base a.v c.ranges.v c.sum_of-sum.result (omega arith) c.sum_of-sum.ensures a.mode _
     c.widest.ensures c.if-sum-widest.true
 
 pub returns-then-sum-ge9223372036854775808 : goal.returns-then-sum-ge9223372036854775808
 returns-then-sum-ge9223372036854775808 c =
-    let s = c.before.before.before in
-    let a = s.before.args in
-    negative a.base a.v s.before.ranges.v s.sum_of.result (omega arith) s.sum_of.ensures a.mode
+    let a = c.args in
+    negative a.base a.v c.ranges.v c.sum_of-sum.result (omega arith) c.sum_of-sum.ensures a.mode
     c.if-sum-ge9223372036854775808.true
 
 pub returns : goal.returns
 returns c =
-    let s = c.before.before.before in
-    let a = s.before.args in
-    wide a.base a.v s.before.ranges.v s.sum_of.result (omega arith) s.sum_of.ensures a.mode _
+    let a = c.args in
+    wide a.base a.v c.ranges.v c.sum_of-sum.result (omega arith) c.sum_of-sum.ensures a.mode _
     c.widest.ensures c.if-sum-widest.false c.if-sum-ge9223372036854775808.false

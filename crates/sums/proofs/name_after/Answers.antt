@@ -5,9 +5,8 @@ use Rattle.sums.proofs.name_after.Goals as goal
 
 pub returns-then-sum-lt4294967296 : goal.returns-then-sum-lt4294967296
 returns-then-sum-lt4294967296 c =
-    let s = c.before in
-    let a = s.before.args in
-    name_kept a.base a.v s.before.ranges.v s.sum_of.result (omega arith) s.sum_of.ensures a.mode
+    let a = c.args in
+    name_kept a.base a.v c.ranges.v c.sum_of-sum.result (omega arith) c.sum_of-sum.ensures a.mode
     c.if-sum-lt4294967296.true
 
 pub enum_told-1 : goal.enum_told-1
@@ -18,15 +17,13 @@ enum_told-in-Checked c = c.in-Checked.in-Checked-own.keys2
 
 pub returns-in-Lenient : goal.returns-in-Lenient
 returns-in-Lenient c =
-    let s = c.before.before.before in
-    let a = s.before.args in
+    let a = c.args in
     rw c.in-Lenient.is
-    (name_reduced a.base a.v s.before.ranges.v s.sum_of.result (omega arith) s.sum_of.ensures)
+    (name_reduced a.base a.v c.ranges.v c.sum_of-sum.result (omega arith) c.sum_of-sum.ensures)
 
 pub returns-in-Checked : goal.returns-in-Checked
 returns-in-Checked c =
-    let s = c.before.before.before in
-    let a = s.before.args in
+    let a = c.args in
     rw c.in-Checked.is
-    (name_wide a.base a.v s.before.ranges.v s.sum_of.result (omega arith) s.sum_of.ensures
+    (name_wide a.base a.v c.ranges.v c.sum_of-sum.result (omega arith) c.sum_of-sum.ensures
     c.if-sum-lt4294967296.false)

@@ -5,13 +5,11 @@ use Rattle.sums.proofs.source_after.Goals as goal
 
 pub returns-then-sum-count : goal.returns-then-sum-count
 returns-then-sum-count c =
-    let s = c.before in
-    let a = s.before.args in
-    inside a.base a.v s.before.ranges.v s.sum_of.result (omega arith) s.sum_of.ensures a.count (omega arith)
+    let a = c.args in
+    inside a.base a.v c.ranges.v c.sum_of-sum.result (omega arith) c.sum_of-sum.ensures a.count (omega arith)
     c.if-sum-count.true
 
 pub returns : goal.returns
 returns c =
-    let s = c.before in
-    let a = s.before.args in
-    outside a.base a.v s.before.ranges.v s.sum_of.result (omega arith) s.sum_of.ensures a.count c.if-sum-count.false
+    let a = c.args in
+    outside a.base a.v c.ranges.v c.sum_of-sum.result (omega arith) c.sum_of-sum.ensures a.count c.if-sum-count.false

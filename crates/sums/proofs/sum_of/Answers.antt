@@ -5,7 +5,7 @@ use Rattle.sums.proofs.sum_of.Goals as goal
 
 pub returns : goal.returns
 returns c =
-    rw c.wrapping_add_u64.ensures
+    rw c.wrapping_add_u64.ensures.value
     (sum_bits
     c.args.base
     c.bits_of.result

@@ -6,7 +6,7 @@ pub loop-n-init : goal.loop-n-init
 loop-n-init c = start _ _ _ c.requires.num_in_bounds
 
 pub char_in-requires : goal.char_in-requires
-char_in-requires c = (c.requires.w_value, omega arith)
+char_in-requires c = record { w_value = c.requires.w_value; d_bound = omega arith }
 
 pub bounds-out-i : goal.bounds-out-i
 bounds-out-i c = inside _ _ _ _ _ _ c.loop-n.invariant
@@ -21,7 +21,7 @@ pub loop-n-preserved : goal.loop-n-preserved
 loop-n-preserved c = turn _ _ _ _ _ _ c.loop-n.invariant _ c.char_in.ensures c.loop-n-test.true
 
 pub char_in-requires-2 : goal.char_in-requires-2
-char_in-requires-2 c = (c.requires.w_value, omega arith)
+char_in-requires-2 c = record { w_value = c.requires.w_value; d_bound = omega arith }
 
 pub bounds-out-i-2 : goal.bounds-out-i-2
 bounds-out-i-2 c = inside _ _ _ _ _ _ c.loop-n.invariant

@@ -1,0 +1,42 @@
+-- `lookup_many::block_of` meets its contract, by the laws of `Blocks`. Assumes nothing.
+use native.Mathlib.Omega.{arith}
+use Prim.Native.Nat.{◌-◌}
+use mathlib.Core.Logic.{⊎_elim}
+use Rattle.lookup_many.proofs.Blocks.{first, inside, last_small, spanned, takes, leaves}
+use Rattle.lookup_many.proofs.block_of.Goals as goal
+
+pub key_at-first-requires : goal.key_at-first-requires
+key_at-first-requires c = omega (arith, c.requires.0.within, c.requires.1)
+
+pub overflow_add-i : goal.overflow_add-i
+overflow_add-i c = omega (arith, c.requires.1, c.ranges.to)
+
+pub loop-i-init : goal.loop-i-init
+loop-i-init c = first _ _ _ c.requires.1 _ c.key_at-first.ensures
+
+pub key_at-p-requires : goal.key_at-p-requires
+key_at-p-requires c = inside _ _ _ _ _ _ _ c.loop-i.invariant c.loop-i-test.true c.requires.0
+
+pub overflow_add-i-in-loop-i : goal.overflow_add-i-in-loop-i
+overflow_add-i-in-loop-i c = omega (arith, c.loop-i-test.true, c.ranges.to)
+
+pub loop-i-smaller : goal.loop-i-smaller
+loop-i-smaller c = omega arith
+
+pub loop-i-preserved : goal.loop-i-preserved
+loop-i-preserved c = ⊎_elim
+    (λ v. ⊎_elim
+    (λ w. rw (w.1, w.2) (takes _ _ _ _ _ _ _ c.loop-i.invariant c.loop-i-test.true _ c.key_at-p.ensures _ (omega (arith, v.0.taken, v.1)) (omega (arith, v.1)) w.0.taken))
+    (λ w. rw (w.1, w.2) (leaves _ _ _ _ _ _ _ c.loop-i.invariant c.loop-i-test.true _ c.key_at-p.ensures _ (omega (arith, v.0.taken, v.1)) (omega (arith, v.1)) w.0.left))
+    c.if-most-p.branch)
+    (λ v. ⊎_elim
+    (λ w. rw (w.1, w.2) (takes _ _ _ _ _ _ _ c.loop-i.invariant c.loop-i-test.true _ c.key_at-p.ensures _ (omega (arith, v.1)) (omega (arith, v.0.left, v.1)) w.0.taken))
+    (λ w. rw (w.1, w.2) (leaves _ _ _ _ _ _ _ c.loop-i.invariant c.loop-i-test.true _ c.key_at-p.ensures _ (omega (arith, v.1)) (omega (arith, v.0.left, v.1)) w.0.left))
+    c.if-most-p.branch)
+    c.if-p-least.branch
+
+pub overflow_cast-latest : goal.overflow_cast-latest
+overflow_cast-latest c = omega (arith, last_small _ _ _ _ _ _ _ c.loop-i.invariant c.requires.0)
+
+pub returns : goal.returns
+returns c = spanned _ _ _ _ _ _ _ c.loop-i.invariant c.loop-i-test.false

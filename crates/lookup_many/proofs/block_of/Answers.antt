@@ -1,9 +1,9 @@
 -- `lookup_many::block_of` meets its contract, by the laws of `Blocks`. Assumes nothing.
 use native.Mathlib.Omega.{arith}
 use Prim.Native.Nat.{◌-◌}
-use mathlib.Core.Logic.{⊎_elim}
 use Rattle.lookup_many.proofs.Blocks.{first, inside, last_small, spanned, takes, leaves}
 use Rattle.lookup_many.proofs.block_of.Goals as goal
+use Rattle.lookup_many.proofs.block_of.Goals.{then-p-least, else-p-least, then-most-p, else-most-p}
 
 pub key_at-first-requires : goal.key_at-first-requires
 key_at-first-requires c = omega (arith, c.requires.0.within, c.requires.1)
@@ -24,16 +24,19 @@ pub loop-i-smaller : goal.loop-i-smaller
 loop-i-smaller c = omega arith
 
 pub loop-i-preserved : goal.loop-i-preserved
-loop-i-preserved c = ⊎_elim
-    (λ v. ⊎_elim
-    (λ w. rw (w.1, w.2) (takes _ _ _ _ _ _ _ c.loop-i.invariant c.loop-i-test.true _ c.key_at-p.ensures _ (omega (arith, v.0.taken, v.1)) (omega (arith, v.1)) w.0.taken))
-    (λ w. rw (w.1, w.2) (leaves _ _ _ _ _ _ _ c.loop-i.invariant c.loop-i-test.true _ c.key_at-p.ensures _ (omega (arith, v.0.taken, v.1)) (omega (arith, v.1)) w.0.left))
-    c.if-most-p.branch)
-    (λ v. ⊎_elim
-    (λ w. rw (w.1, w.2) (takes _ _ _ _ _ _ _ c.loop-i.invariant c.loop-i-test.true _ c.key_at-p.ensures _ (omega (arith, v.1)) (omega (arith, v.0.left, v.1)) w.0.taken))
-    (λ w. rw (w.1, w.2) (leaves _ _ _ _ _ _ _ c.loop-i.invariant c.loop-i-test.true _ c.key_at-p.ensures _ (omega (arith, v.1)) (omega (arith, v.0.left, v.1)) w.0.left))
-    c.if-most-p.branch)
-    c.if-p-least.branch
+loop-i-preserved c =
+    elim c.if-p-least.branch [
+      then-p-least v ↦
+        elim c.if-most-p.branch [
+          then-most-p w ↦ rw (w.most-is, w.last-is) (takes _ _ _ _ _ _ _ c.loop-i.invariant c.loop-i-test.true _ c.key_at-p.ensures _ (omega (arith, v.if-p-least.true, v.least-is)) (omega (arith, v.least-is)) w.if-most-p.true)
+        | else-most-p w ↦ rw (w.most-is, w.last-is) (leaves _ _ _ _ _ _ _ c.loop-i.invariant c.loop-i-test.true _ c.key_at-p.ensures _ (omega (arith, v.if-p-least.true, v.least-is)) (omega (arith, v.least-is)) w.if-most-p.false)
+        ]
+    | else-p-least v ↦
+        elim c.if-most-p.branch [
+          then-most-p w ↦ rw (w.most-is, w.last-is) (takes _ _ _ _ _ _ _ c.loop-i.invariant c.loop-i-test.true _ c.key_at-p.ensures _ (omega (arith, v.least-is)) (omega (arith, v.if-p-least.false, v.least-is)) w.if-most-p.true)
+        | else-most-p w ↦ rw (w.most-is, w.last-is) (leaves _ _ _ _ _ _ _ c.loop-i.invariant c.loop-i-test.true _ c.key_at-p.ensures _ (omega (arith, v.least-is)) (omega (arith, v.if-p-least.false, v.least-is)) w.if-most-p.false)
+        ]
+    ]
 
 pub overflow_cast-latest : goal.overflow_cast-latest
 overflow_cast-latest c = omega (arith, last_small _ _ _ _ _ _ _ c.loop-i.invariant c.requires.0)

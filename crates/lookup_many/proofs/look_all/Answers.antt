@@ -1,13 +1,13 @@
 -- `lookup_many::look_all` meets its contract, by the laws of `Pairs`. Assumes nothing.
 use native.Mathlib.Omega.{arith}
 use Prim.Native.Nat.{◌-◌}
-use mathlib.Core.Logic.{⊎_elim}
 use mathlib.Core.Path.{◌∙◌}
 use lib.ListN.{length}
 use Rattle.token.specs.Table.{places}
 use Rattle.token.proofs.Whole.{few}
 use Rattle.lookup_many.proofs.Pairs.{after, again, finish, block}
 use Rattle.lookup_many.proofs.look_all.Goals as goal
+use Rattle.lookup_many.proofs.look_all.Goals.{then-places-i-gt-BLOCK, else-places-i-gt-BLOCK}
 
 pub none_yet-requires : goal.none_yet-requires
 none_yet-requires c = c.requires.1
@@ -25,13 +25,13 @@ pub overflow_add-to : goal.overflow_add-to
 overflow_add-to c = omega (arith, c.if-places-i-gt-BLOCK.true, c.loop-i-test.true, c.places_in-places.ensures, few (length c.args.table.now) c.requires.0)
 
 pub look_block-requires : goal.look_block-requires
-look_block-requires c = (block _ _ _ _ c.requires.0 c.places_in-places.ensures (⊎_elim (λ w. (omega (arith, w.0.taken, w.1), omega (arith, w.0.taken, w.1))) (λ w. (omega (arith, w.1, c.loop-i-test.true), omega (arith, w.1))) c.if-places-i-gt-BLOCK.branch), (omega (arith, c.loop-i.invariant.1.sized, c.none_yet.ensures.sized, c.requires.1), again _ _ _ _ c.loop-i.invariant.1))
+look_block-requires c = (block _ _ _ _ c.requires.0 c.places_in-places.ensures (elim c.if-places-i-gt-BLOCK.branch [ then-places-i-gt-BLOCK w ↦ (omega (arith, w.if-places-i-gt-BLOCK.true, w.to-is), omega (arith, w.if-places-i-gt-BLOCK.true, w.to-is)) | else-places-i-gt-BLOCK w ↦ (omega (arith, w.to-is, c.loop-i-test.true), omega (arith, w.to-is)) ]), (omega (arith, c.loop-i.invariant.1.sized, c.none_yet.ensures.sized, c.requires.1), again _ _ _ _ c.loop-i.invariant.1))
 
 pub loop-i-smaller : goal.loop-i-smaller
-loop-i-smaller c = ⊎_elim (λ w. omega (arith, w.0.taken, w.1)) (λ w. omega (arith, w.1, c.loop-i-test.true)) c.if-places-i-gt-BLOCK.branch
+loop-i-smaller c = elim c.if-places-i-gt-BLOCK.branch [ then-places-i-gt-BLOCK w ↦ omega (arith, w.if-places-i-gt-BLOCK.true, w.to-is) | else-places-i-gt-BLOCK w ↦ omega (arith, w.to-is, c.loop-i-test.true) ]
 
 pub loop-i-preserved : goal.loop-i-preserved
-loop-i-preserved c = (⊎_elim (λ w. omega (arith, w.0.taken, w.1)) (λ w. omega (arith, w.1, c.loop-i-test.true)) c.if-places-i-gt-BLOCK.branch, after _ _ _ _ _ _ c.loop-i.invariant.1 c.look_block.ensures)
+loop-i-preserved c = ((elim c.if-places-i-gt-BLOCK.branch [ then-places-i-gt-BLOCK w ↦ omega (arith, w.if-places-i-gt-BLOCK.true, w.to-is) | else-places-i-gt-BLOCK w ↦ omega (arith, w.to-is, c.loop-i-test.true) ]), after _ _ _ _ _ _ c.loop-i.invariant.1 c.look_block.ensures)
 
 pub shape_of-found : goal.shape_of-found
 shape_of-found c = c.loop-i.invariant.1.sized ∙ c.none_yet.ensures.sized

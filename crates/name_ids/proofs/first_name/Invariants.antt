@@ -7,7 +7,7 @@ use Rattle.name_ids.proofs.Find.{Passed}
 use Rattle.name_ids.proofs.first_name.Given as goal
 
 abbrev pub invariant-loop-k : goal.invariant-loop-k
-invariant-loop-k l = Passed (record { l.text = l.text; l.ends = l.ends }) l.name l.k × (l.from ≡ begin_of l.ends l.k)
+invariant-loop-k l = Passed (record { text = l.text; ends = l.ends }) l.name l.k × (l.from ≡ begin_of l.ends l.k)
 
 abbrev pub decreases-loop-k : goal.decreases-loop-k
 decreases-loop-k l = length l.ends - l.k

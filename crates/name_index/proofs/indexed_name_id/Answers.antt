@@ -1,13 +1,18 @@
 -- `name_index::indexed_name_id` meets its contract, by the laws of `Slots` and `Given`. Assumes nothing.
-use mathlib.Core.Logic.{inl, inr, ⊎_elim}
+use mathlib.Core.Logic.{inl, inr}
 use Prim.Native.Nat.{◌<◌}
 use native.Mathlib.Omega.{arith}
 use Rattle.name_index.proofs.Slots.{few_slots}
 use Rattle.name_index.proofs.Given.{none, known, slot_is, within, room, fresh, old}
 use Rattle.name_index.proofs.indexed_name_id.Goals as goal
+use Rattle.name_index.proofs.indexed_name_id.Goals.{then-found-inner, else-found-inner}
 
-found_small : (c : tie.After-row-known) → c.before.if4.found < 4294967294
-found_small c = ⊎_elim (λ w. omega (arith, w.1, few_slots _ _ c.before.before.before.before.before.before.before.before.before.before.before.before.before.before.before.before.requires.0.first c.before.before.before.before.before.before.before.before.before.before.before.before.before.before.before.before.requires.0.second, within _ _ _ _ c.before.before.before.before.before.before.before.before.before.before.before.before.before.before.before.before.requires.0 c.before.before.before.before.before.before.before.before.before.before.before.before.before.before.before.before.requires.1 _ (omega arith) _ c.before.before.before.before.before.before.name_at.ensures _ c.before.before.before.latest-same.ensures)) (λ w. omega (arith, w.1, few_slots _ _ c.before.before.before.before.before.before.before.before.before.before.before.before.before.before.before.before.requires.0.first c.before.before.before.before.before.before.before.before.before.before.before.before.before.before.before.before.requires.0.second, within _ _ _ _ c.before.before.before.before.before.before.before.before.before.before.before.before.before.before.before.before.requires.0 c.before.before.before.before.before.before.before.before.before.before.before.before.before.before.before.before.requires.1 _ (omega arith) _ c.before.before.before.before.before.before.name_at.ensures _ c.before.before.before.latest-same.ensures)) c.before.if4.branch
+found_small : (c : goal.After-row_known-1) → c.if-found-inner.found < 4294967294
+found_small c =
+    elim c.if-found-inner.branch [
+      then-found-inner w ↦ omega (arith, w.found-is, few_slots _ _ c.requires.0.first c.requires.0.second, within _ _ _ _ c.requires.0 c.requires.1 _ (omega arith) _ c.name_at-name.ensures _ c.latest_same-behind.ensures)
+    | else-found-inner w ↦ omega (arith, w.found-is, few_slots _ _ c.requires.0.first c.requires.0.second, within _ _ _ _ c.requires.0 c.requires.1 _ (omega arith) _ c.name_at-name.ensures _ c.latest_same-behind.ensures)
+    ]
 
 pub returns-then-outer_ends-k : goal.returns-then-outer_ends-k
 returns-then-outer_ends-k c = none _ _ _ _ c.requires.0 c.requires.1 _ (omega arith)
@@ -43,4 +48,4 @@ pub overflow_cast-result-2 : goal.overflow_cast-result-2
 overflow_cast-result-2 c = omega (arith, found_small c)
 
 pub returns : goal.returns
-returns c = old _ _ _ _ c.requires.0 c.requires.1 _ (omega arith) _ c.name_at-name.ensures _ c.latest_same-behind.ensures c.if-behind-eq0.false _ (⊎_elim (λ w. inl (w.0.taken, w.1)) (λ w. inr (w.0.left, w.1)) c.if-found-inner.branch)
+returns c = old _ _ _ _ c.requires.0 c.requires.1 _ (omega arith) _ c.name_at-name.ensures _ c.latest_same-behind.ensures c.if-behind-eq0.false _ (elim c.if-found-inner.branch [ then-found-inner w ↦ inl (w.if-found-inner.true, w.found-is) | else-found-inner w ↦ inr (w.if-found-inner.false, w.found-is) ])

@@ -91,7 +91,7 @@ module _ (sources names sources' names' : ℕ) (hs : sources ≤ sources') (hn :
   follow_more line source_line source_col [] w = refl
   follow_more line source_line source_col (t ∷ ts) w =
       let r = both_true (follows sources names line source_line source_col t) _ w in
-      both_of _ _ (follows_more line source_line source_col t r.0) (follow_more _ _ _ ts r.1)
+      both_of _ _ (follows_more line source_line source_col t r.0) (follow_more t.dst_line _ _ ts r.1)
 
   pub sound_more : (ts : List Token) → Sound sources names ts → Sound sources' names' ts
   sound_more ts s = record { meets = follow_more 0 0 0 ts s.meets; fits = s.fits }

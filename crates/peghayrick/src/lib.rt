@@ -1,4 +1,4 @@
-// Every public entry, exported under its C name. Each answers what the entry behind it answers, a code as its two numbers.
+// Every public entry, under the name that `peghayrick_c` exports it by. Each answers what the entry behind it answers, a code as its two numbers.
 #![tactic(auto)]
 
 ghost use Rattle.std.specs.Prelude.{◌≡◌};
@@ -148,78 +148,59 @@ fn answer_out(c: Code) -> Answer
 }
 
 // What the header's PGK_VERSION must be.
-#[unsafe(no_mangle)]
-pub extern "C" fn pgk_version() -> u64
+pub fn pgk_version() -> u64
     ensures { result ≡ version }
 {
     9000
 }
 
 // The numbers that a table needs so that decoding the text never says TableFull.
-#[unsafe(no_mangle)]
-pub extern "C" fn pgk_table_size(text: &[u8]) -> usize
+pub fn pgk_table_size(text: &[u8]) -> usize
     ensures { result ≡ table_size text.now }
 {
     table_size::table_size(text)
 }
 
 // 1 where what is written of the table surely reads back, else 0.
-#[unsafe(no_mangle)]
-pub extern "C" fn pgk_meets_premises(table: &[u32], sources: u32, names: u32) -> u64
+pub fn pgk_meets_premises(table: &[u32], sources: u32, names: u32) -> u64
     ensures { Goes (Decides table.now sources names) flag result }
 {
     flag_of(premises::meets_premises(table, sources, names))
 }
 
 // 1 where it surely reads back in checked mode too, else 0.
-#[unsafe(no_mangle)]
-pub extern "C" fn pgk_meets_checked_premises(table: &[u32], sources: u32, names: u32) -> u64
+pub fn pgk_meets_checked_premises(table: &[u32], sources: u32, names: u32) -> u64
     ensures { Goes (DecidesChecked table.now sources names) flag result }
 {
     flag_of(checked_premises::meets_checked_premises(table, sources, names))
 }
 
 // The decode that names no mode: checked.
-#[unsafe(no_mangle)]
-pub extern "C" fn pgk_decode(text: &[u8], sources: u32, names: u32, table: &mut [u32]) -> DecodedOut
+pub fn pgk_decode(text: &[u8], sources: u32, names: u32, table: &mut [u32]) -> DecodedOut
     ensures { Goes (λ d. Decodes by_default sources names text.now table.old d table.new) decoded_out result }
 {
     decoded_out(decode::decode_mapping(text, sources, names, table))
 }
 
-#[unsafe(no_mangle)]
-pub extern "C" fn pgk_decode_lenient(
-    text: &[u8],
-    sources: u32,
-    names: u32,
-    table: &mut [u32],
-) -> DecodedOut
+pub fn pgk_decode_lenient(text: &[u8], sources: u32, names: u32, table: &mut [u32]) -> DecodedOut
     ensures { Goes (λ d. Decodes Mode.Lenient sources names text.now table.old d table.new) decoded_out result }
 {
     decoded_out(decode::decode_lenient(text, sources, names, table))
 }
 
-#[unsafe(no_mangle)]
-pub extern "C" fn pgk_decode_checked(
-    text: &[u8],
-    sources: u32,
-    names: u32,
-    table: &mut [u32],
-) -> DecodedOut
+pub fn pgk_decode_checked(text: &[u8], sources: u32, names: u32, table: &mut [u32]) -> DecodedOut
     ensures { Goes (λ d. Decodes Mode.Checked sources names text.now table.old d table.new) decoded_out result }
 {
     decoded_out(decode::decode_checked(text, sources, names, table))
 }
 
-#[unsafe(no_mangle)]
-pub extern "C" fn pgk_encode(table: &[u32], chunk: TokenChunk, out: &mut [u8]) -> EncodedOut
+pub fn pgk_encode(table: &[u32], chunk: TokenChunk, out: &mut [u8]) -> EncodedOut
     ensures { Goes (λ e. Encodes table.now chunk out.old e out.new) encoded_out result }
 {
     encoded_out(encode::serialize_mappings(table, chunk, out))
 }
 
-#[unsafe(no_mangle)]
-pub extern "C" fn pgk_translate(
+pub fn pgk_translate(
     table: &mut [u32],
     line_offset: u32,
     source_offset: u32,
@@ -230,8 +211,7 @@ pub extern "C" fn pgk_translate(
     answer_out(translate::translate(table, line_offset, source_offset, name_offset))
 }
 
-#[unsafe(no_mangle)]
-pub extern "C" fn pgk_translate_tokens(
+pub fn pgk_translate_tokens(
     ts: &mut [Token],
     line_offset: u32,
     source_offset: u32,
@@ -243,8 +223,7 @@ pub extern "C" fn pgk_translate_tokens(
 }
 
 // Code 0 carries the token's index, or 4,294,967,295 where there is none.
-#[unsafe(no_mangle)]
-pub extern "C" fn pgk_lookup(table: &[u32], line: u32, col: u32) -> Answer
+pub fn pgk_lookup(table: &[u32], line: u32, col: u32) -> Answer
     ensures { Goes (Looks table.now line col) found_out result }
 {
     let f = lookup::lookup_token(table, line, col);
@@ -255,35 +234,27 @@ pub extern "C" fn pgk_lookup(table: &[u32], line: u32, col: u32) -> Answer
 }
 
 // For each pair of line and column the token's index, or 4,294,967,295 where there is none.
-#[unsafe(no_mangle)]
-pub extern "C" fn pgk_lookup_many(table: &[u32], positions: &[u32], found: &mut [u32]) -> Answer
+pub fn pgk_lookup_many(table: &[u32], positions: &[u32], found: &mut [u32]) -> Answer
     ensures { Goes (λ c. LooksMany table.now positions.now found.old c found.new) answer_of result }
 {
     answer_out(lookup_many::lookup_many(table, positions, found))
 }
 
 // The same answers: by halving where the table is sorted, else as before.
-#[unsafe(no_mangle)]
-pub extern "C" fn pgk_lookup_many_quick(
-    table: &[u32],
-    positions: &[u32],
-    found: &mut [u32],
-) -> Answer
+pub fn pgk_lookup_many_quick(table: &[u32], positions: &[u32], found: &mut [u32]) -> Answer
     ensures { Goes (λ c. LooksMany table.now positions.now found.old c found.new) answer_of result }
 {
     answer_out(lookup_quick::lookup_many_quick(table, positions, found))
 }
 
 // Every difference between two tables that are sorted by line and column, three numbers each.
-#[unsafe(no_mangle)]
-pub extern "C" fn pgk_compare(left: &[u32], right: &[u32], out: &mut [u32]) -> ComparedOut
+pub fn pgk_compare(left: &[u32], right: &[u32], out: &mut [u32]) -> ComparedOut
     ensures { Goes (λ d. Compares left.now right.now out.old d out.new) compared_out result }
 {
     compared_out(compare_tables::compare_tables(left, right, out))
 }
 
-#[unsafe(no_mangle)]
-pub extern "C" fn pgk_compose(
+pub fn pgk_compose(
     outer: &[u32],
     outer_sources: u32,
     outer_names: &[u8],
@@ -310,8 +281,7 @@ pub extern "C" fn pgk_compose(
 }
 
 // The same with lent working memory.
-#[unsafe(no_mangle)]
-pub extern "C" fn pgk_compose_with(
+pub fn pgk_compose_with(
     outer: &[u32],
     outer_sources: u32,
     outer_names: &[u8],
@@ -339,8 +309,7 @@ pub extern "C" fn pgk_compose_with(
     ))
 }
 
-#[unsafe(no_mangle)]
-pub extern "C" fn pgk_name_of(
+pub fn pgk_name_of(
     inner_names: &[u8],
     inner_ends: &[usize],
     outer_names: &[u8],

@@ -1,5 +1,5 @@
 -- docs/RULES.md, Mappings: what one segment does, step by step. Assumes nothing.
-use Rattle.std.specs.Prelude.{ℕ, ◌%◌, ◌^◌, ◌≤◌, eqb, ltb, ℤ, pos, nat_abs, ◌+ℤ◌, get_or}
+use Rattle.std.specs.Prelude.{ℕ, ◌%◌, ◌^◌, eqb, ltb, ℤ, pos, ◌+ℤ◌, get_or}
 use Rattle.list.specs.Pick.{pick}
 use Rattle.code.specs.declared.Code.{Code}
 use Rattle.token.specs.Table.{no_id, no_segment, token}

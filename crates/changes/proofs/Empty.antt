@@ -3,7 +3,7 @@ use mathlib.Core.Path.{◌≡◌, refl, sym, ◌∙◌, ap, ap₂, subst}
 use mathlib.Core.Bool.{Bool, true, false}
 use mathlib.Core.Logic.{◌⊎◌, inl, inr}
 use mathlib.Core.List.{List, [], ◌∷◌, ◌++◌, map}
-use Prim.Native.Nat.{ℕ, zero, suc, ◌+◌, ◌-◌, ◌≤◌, ◌<◌}
+use Prim.Native.Nat.{ℕ, zero, suc, ◌+◌, ◌≤◌, ◌<◌}
 use native.Mathlib.Omega.{arith}
 use native.Mathlib.Nat.{eq-or-lt_of_le}
 use lib.Dec.{ltb}
@@ -14,9 +14,9 @@ use Rattle.list.proofs.Same.{same_is, is_same}
 use Rattle.token.specs.Table.{first_six, places, token_at, tokens_from, tokens_of, SameTokens}
 use Rattle.token.proofs.Same.{same_places, same_at}
 use Rattle.order.specs.Order.{sorted}
-use Rattle.changes.specs.Changes.{Position, position_of, Entry, only_left, only_right, different, agree, changes}
+use Rattle.changes.specs.Changes.{position_of, Entry, only_left, only_right, different, agree, changes}
 use Rattle.changes.specs.Turns.{changes_on}
-use Rattle.changes.proofs.Positions.{Before, Order, equal, before, behind, order}
+use Rattle.changes.proofs.Positions.{Order, equal, before, behind, order}
 use Rattle.changes.proofs.There.{position_at}
 use Rattle.changes.proofs.Walk.{all_behind, left_alone, right_alone, both_here, all_done, from_start}
 

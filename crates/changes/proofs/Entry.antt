@@ -1,5 +1,5 @@
 -- Two tokens compared, and an entry as its three numbers. Assumes nothing.
-use mathlib.Core.Path.{◌≡◌, refl, ◌∙◌, subst, sym}
+use mathlib.Core.Path.{◌≡◌, refl, ◌∙◌, sym}
 use mathlib.Core.Bool.{Bool, true, false}
 use mathlib.Core.List.{List, [], ◌∷◌, ◌++◌, append_assoc}
 use Prim.Native.Nat.{ℕ, suc, ◌+◌, ◌≤◌}
@@ -12,7 +12,6 @@ use Rattle.list.specs.Pick.{both}
 use Rattle.list.specs.Same.{same}
 use Rattle.list.specs.Memory.{blit}
 use Rattle.list.specs.Put.{Put}
-use Rattle.list.proofs.Put.{put_nothing}
 use Rattle.changes.specs.Changes.{listed}
 use Rattle.changes.specs.Turns.{entry_of}
 use Rattle.changes.specs.declared.Kind.{Kind}

@@ -4,15 +4,14 @@ use mathlib.Core.Bool.{Bool, true, false}
 use mathlib.Core.List.{List, [], ◌∷◌, ◌++◌, map}
 use Prim.Native.Nat.{ℕ}
 use Rattle.list.specs.Pick.{pick}
-use Rattle.list.specs.Same.{same}
 use Rattle.list.proofs.Same.{same_is, is_same}
 use Rattle.token.specs.Table.{first_six, token_at, tokens_of}
 use Rattle.token.specs.declared.Token.{Token}
-use Rattle.changes.specs.Changes.{Position, positions_of, there, Entry, only_left, only_right, different, agree, held, changes_at, each, changes}
+use Rattle.changes.specs.Changes.{Position, positions_of, there, Entry, only_left, only_right, different, agree, held, changes_at, each}
 use Rattle.changes.specs.Once.{In, mirrored, OtherWay}
-use Rattle.changes.proofs.Positions.{Rises, positions_rise, positions_have, Stands, positions_only, one_list}
+use Rattle.changes.proofs.Positions.{positions_rise, positions_have, positions_only, one_list}
 use Rattle.changes.proofs.In.{in_swapped}
-use Rattle.changes.proofs.Walk.{none_right, none_left, each_alike}
+use Rattle.changes.proofs.Walk.{none_right, each_alike}
 
 -- ---- the same positions
 swapped : (ts us : List Token) (p : Position) → In p (positions_of (ts ++ us)) → In p (positions_of (us ++ ts))

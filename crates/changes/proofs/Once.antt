@@ -3,7 +3,7 @@ use mathlib.Core.Path.{◌≡◌, refl, sym, ◌∙◌, ap, subst}
 use mathlib.Core.Bool.{Bool, true, false}
 use mathlib.Core.Logic.{◌⊎◌, inl, inr}
 use mathlib.Core.List.{List, [], ◌∷◌, ◌++◌}
-use Prim.Native.Nat.{ℕ, ◌+◌, ◌-◌, ◌≤◌, ◌<◌}
+use Prim.Native.Nat.{ℕ, ◌≤◌, ◌<◌}
 use native.Mathlib.Omega.{arith}
 use native.Mathlib.Nat.{sub-zero}
 use lib.Dec.{ltb}
@@ -13,7 +13,7 @@ use Rattle.list.proofs.Same.{same_is, is_same}
 use Rattle.token.specs.Table.{first_six, places, token_at, tokens_of}
 use Rattle.order.specs.Order.{stands_before}
 use Rattle.order.proofs.Before.{impossible}
-use Rattle.changes.specs.Changes.{Position, position_of, positions_of, there_from, there, Entry, only_left, only_right, different, agree, held, changes_at, each, changes}
+use Rattle.changes.specs.Changes.{Position, positions_of, there_from, there, Entry, only_left, only_right, different, agree, changes_at, each, changes}
 use Rattle.changes.specs.Once.{In, Apart, place_among, Opposite, Difference, entry_position, Rising, ChangesOnce}
 use Rattle.changes.proofs.In.{in_first, in_second, in_either}
 use Rattle.changes.proofs.Positions.{Before, Order, equal, before, behind, order, not_one, not_itself, before_before, Rises, positions_rise}

@@ -2,7 +2,7 @@
 use mathlib.Core.Path.{◌≡◌, refl, sym, ◌∙◌, ap, ap₂, subst}
 use mathlib.Core.Bool.{Bool, true, false}
 use mathlib.Core.Logic.{◌⊎◌, inl, inr}
-use mathlib.Core.List.{List, [], ◌∷◌, ◌++◌, map}
+use mathlib.Core.List.{List, [], ◌∷◌, map}
 use Prim.Native.Nat.{ℕ, zero, suc, ◌+◌, ◌-◌, ◌≤◌, ◌<◌}
 use native.Mathlib.Omega.{arith}
 use native.Mathlib.Nat.{sub_self, eq-or-lt_of_le}
@@ -10,7 +10,7 @@ use lib.ListN.{length}
 use Rattle.list.specs.Pick.{pick}
 use Rattle.token.specs.Table.{token_at}
 use Rattle.order.proofs.Before.{impossible}
-use Rattle.changes.specs.Changes.{Position, position_of, there_from, Entry, only_left, only_right, different, agree, held}
+use Rattle.changes.specs.Changes.{Position, there_from, Entry, only_left, only_right, different, agree, held}
 use Rattle.changes.specs.Once.{In, Apart}
 use Rattle.changes.proofs.Positions.{Order, equal, before, behind, order, not_one}
 use Rattle.changes.proofs.There.{position_at, from_here, from_else}

@@ -1,20 +1,18 @@
 -- The indices of the tokens at a position. Assumes nothing.
-use mathlib.Core.Path.{◌≡◌, refl, sym, ◌∙◌, ap, subst}
-use mathlib.Core.Bool.{Bool, true, false}
+use mathlib.Core.Path.{◌≡◌, refl, sym, ◌∙◌, ap}
+use mathlib.Core.Bool.{true, false}
 use mathlib.Core.Logic.{◌⊎◌, inl, inr}
 use mathlib.Core.List.{List, [], ◌∷◌, ◌++◌}
 use Prim.Native.Nat.{ℕ, zero, suc, ◌+◌, ◌-◌, ◌≤◌, ◌<◌}
 use native.Mathlib.Omega.{arith}
 use native.Mathlib.Nat.{eq-or-lt_of_le}
 use lib.ListN.{length}
-use Rattle.list.specs.Pick.{pick}
 use Rattle.token.specs.Table.{places, token_at, tokens_from, tokens_of}
-use Rattle.token.specs.declared.Token.{Token}
 use Rattle.changes.specs.Changes.{Position, position_of, together, positions_of, there_from}
 use Rattle.changes.specs.Turns.{there_on}
 use Rattle.changes.specs.Once.{In}
 use Rattle.changes.proofs.In.{in_first, in_second}
-use Rattle.changes.proofs.Positions.{Before, Order, equal, before, behind, order, not_one, positions_have}
+use Rattle.changes.proofs.Positions.{Order, equal, before, behind, order, not_one, positions_have}
 
 module _ (p q : Position) where
   pub together_yes : p ≡ q → together p q ≡ true

@@ -1,9 +1,9 @@
 -- Both tables side by side: what a turn takes from what is left. Assumes nothing.
 use mathlib.Core.Path.{◌≡◌, refl, sym, ◌∙◌, ap, ap₂, subst}
 use mathlib.Core.Bool.{Bool, true, false}
-use mathlib.Core.Logic.{◌⊎◌, inl, inr}
+use mathlib.Core.Logic.{inl, inr}
 use mathlib.Core.List.{List, [], ◌∷◌, ◌++◌, append_assoc, map}
-use Prim.Native.Nat.{ℕ, zero, suc, ◌+◌, ◌-◌, ◌≤◌, ◌<◌}
+use Prim.Native.Nat.{ℕ, ◌+◌, ◌≤◌, ◌<◌}
 use native.Mathlib.Omega.{arith}
 use native.Mathlib.Nat.{sub-zero}
 use lib.ListN.{length}
@@ -13,7 +13,7 @@ use Rattle.order.specs.Order.{sorted}
 use Rattle.order.specs.Keys.{key_of, key_at}
 use Rattle.order.proofs.Before.{UpTo, up_to}
 use Rattle.order.proofs.Falls.{sorted_never}
-use Rattle.changes.specs.Changes.{Position, position_of, together, positions_of, there_from, Entry, only_left, only_right, different, agree, held, each, changes}
+use Rattle.changes.specs.Changes.{Position, positions_of, Entry, only_left, only_right, different, agree, held, each, changes}
 use Rattle.changes.specs.Turns.{there_on, changes_on, entry_of, turn_of, Ahead, Turns}
 use Rattle.changes.specs.Once.{In}
 use Rattle.changes.specs.declared.Kind.{Kind}

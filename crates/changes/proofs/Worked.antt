@@ -5,7 +5,7 @@ use Prim.Native.Nat.{ℕ}
 use Rattle.list.specs.Same.{same}
 use Rattle.token.specs.Table.{no_id, token, token_at, tokens_from, flat}
 use Rattle.token.specs.declared.Token.{Token}
-use Rattle.changes.specs.Changes.{among, positions_of, there_from, Entry, only_left, only_right, different, held, each, changes, listed}
+use Rattle.changes.specs.Changes.{among, positions_of, there_from, only_left, only_right, different, held, each, changes, listed}
 
 -- a token at a position, of a source; its segment begins at the last number
 abbrev at : ℕ → ℕ → ℕ → ℕ → Token

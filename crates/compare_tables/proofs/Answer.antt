@@ -1,14 +1,13 @@
 -- What a comparison answers, branch by branch; and that there is one answer. Assumes nothing.
-use mathlib.Core.Path.{◌≡◌, refl, sym, ◌∙◌, ap, subst}
+use mathlib.Core.Path.{◌≡◌, refl, sym, ◌∙◌, ap}
 use mathlib.Core.Bool.{Bool, true, false}
 use mathlib.Core.List.{List, [], ◌∷◌}
 use mathlib.Core.Option.{Option, none, some}
-use Prim.Native.Nat.{ℕ, ◌+◌, ◌*◌, ◌≤◌, ◌<◌}
+use Prim.Native.Nat.{ℕ, ◌*◌, ◌≤◌, ◌<◌}
 use native.Mathlib.Omega.{arith}
-use lib.Dec.{eqb, ltb}
+use lib.Dec.{ltb}
 use lib.ListN.{length}
 use borrow.Author.Tests.{eq-eqb, ne_eqb, lt-ltb, le-ltb, ltb-true, ltb-false}
-use Rattle.list.specs.Pick.{pick}
 use Rattle.list.specs.Memory.{onto}
 use Rattle.code.specs.Code.{code_of}
 use Rattle.code.specs.declared.Code.{Code}
@@ -19,7 +18,7 @@ use Rattle.order.proofs.Before.{impossible}
 use Rattle.order.proofs.Falls.{sorted_says}
 use Rattle.changes.specs.Changes.{Entry, changes, listed}
 use Rattle.changes.proofs.Empty as empty
-use Rattle.compare_tables.specs.Compare.{refused, unless_falls, roomed, compared, Compares, Lists, DoneLists, EmptyIsSame}
+use Rattle.compare_tables.specs.Compare.{refused, roomed, compared, Compares, Lists, DoneLists, EmptyIsSame}
 use Rattle.compare_tables.specs.Walks.{Walks, Counts}
 use Rattle.compare_tables.specs.declared.Compared.{Compared}
 use Rattle.compare_tables.proofs.Loops.{length_listed, few_tokens}

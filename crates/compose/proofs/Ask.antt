@@ -8,7 +8,7 @@ use lib.ListN.{length, take, drop, set, length-append, take-append-drop}
 use Rattle.list.specs.Memory.{onto, blit}
 use Rattle.list.specs.Pick.{pick}
 use Rattle.list.proofs.Memory.{blit_set, blit_onto}
-use Rattle.names.specs.Names.{NameList, count}
+use Rattle.names.specs.Names.{NameList}
 use Rattle.name_ids.specs.declared.NameId.{NameId}
 use Rattle.name_ids.specs.NameIds.{Named, outer_named}
 use Rattle.name_ids.specs.Answers.{grown, Kept}

@@ -13,7 +13,7 @@ use Rattle.token.specs.Table.{places, token_at, tokens_from, tokens_of, put_toke
 use Rattle.token.specs.declared.Token.{Token}
 use Rattle.token.proofs.Laws.{length_over, put_over, tokens_step, tokens_none}
 use Rattle.seek.specs.Seek.{Halvable}
-use Rattle.names.specs.Names.{NameList, count}
+use Rattle.names.specs.Names.{NameList}
 use Rattle.names.proofs.Ends.{few}
 use Rattle.name_ids.specs.NameIds.{outer_named}
 use Rattle.name_ids.specs.Answers.{Kept}

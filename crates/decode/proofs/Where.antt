@@ -22,7 +22,7 @@ use Rattle.step.proofs.Faults as step
 use Rattle.step.proofs.Faults.{Lying, lying, at_begin, nothing_before, put_take}
 use Rattle.decode.specs.declared.Decoded.{Decoded}
 use Rattle.decode.specs.Mapping.{Out, stopped, token_then, run, decoded, answer}
-use Rattle.decode.specs.Where.{Begins, Fault, Located}
+use Rattle.decode.specs.Where.{Begins, Located}
 use Rattle.decode.proofs.Runs.{run_done, run_put, run_by}
 
 yes_no : {A : Type 0} → true ≡ false → A

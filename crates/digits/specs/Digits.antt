@@ -1,6 +1,6 @@
 -- docs/RULES.md, Values: the sixty-four characters in order, the two delimiters, and what each other byte reads as.
 -- Assumes nothing.
-use Rattle.std.specs.Prelude.{Bool, true, false, List, [], ◌∷◌, ℕ, ◌+◌, ◌-◌, ◌/◌, ◌%◌, leb, ltb, eqb}
+use Rattle.std.specs.Prelude.{Bool, true, false, ℕ, ◌+◌, ◌-◌, leb, ltb, eqb}
 use Rattle.list.specs.Pick.{pick}
 
 abbrev pub within : ℕ → ℕ → ℕ → Bool

@@ -8,7 +8,6 @@ use native.Mathlib.Decide.{dec_le}
 use native.Mathlib.Nat.{lt_of_not-le}
 use lib.Dec.{eqb}
 use lib.ListN.{length}
-use Rattle.list.specs.Memory.{onto, blit}
 use Rattle.code.specs.declared.Code.{Code}
 use Rattle.token.specs.Table.{token_at}
 use Rattle.token.specs.declared.Token.{Token}

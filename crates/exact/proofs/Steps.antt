@@ -21,8 +21,8 @@ use Rattle.apply.proofs.Lands.{Lands, lands}
 use Rattle.step.specs.declared.Step.{Step}
 use Rattle.step.specs.Step.{commaed, lined, stepped, segment_step, step_from}
 use Rattle.exact.specs.Text.{Segment, nothing, Delimiter, comma, semicolon, character, Part, spell_segment, spell_parts, Numbers, added, delimited, token_of, parts_tokens}
-use Rattle.exact.specs.Exact.{mode, as_read, whole, wholes}
-use Rattle.exact.proofs.Fields.{Parts, Parted, parted}
+use Rattle.exact.specs.Exact.{mode, as_read, wholes}
+use Rattle.exact.proofs.Fields.{Parted, parted}
 use Rattle.exact.proofs.Sums.{Refusal, other, Tracks, Takes, takes}
 
 -- the bytes at the state's place, which begin with a delimiter or are none, and the tokens to come

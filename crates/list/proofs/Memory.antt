@@ -1,12 +1,12 @@
 -- Laws of onto and blit. Assumes nothing.
 use mathlib.Core.Path.{◌≡◌, refl, ap, ap₂, sym, ◌∙◌}
 use mathlib.Core.List.{List, [], ◌∷◌, ◌++◌, append_assoc}
-use Prim.Native.Nat.{ℕ, zero, suc, ◌+◌, ◌≤◌, ◌<◌}
+use Prim.Native.Nat.{ℕ, ◌+◌, ◌≤◌, ◌<◌}
 use native.Mathlib.Omega.{arith}
 use native.Mathlib.Nat.{zero-add, add-zero}
 use native.Mathlib.Numerals.{add-one}
 use lib.ListN.{length, take, drop, set, replicate, length-append, length-drop, take-append-drop, replicate-append-replicate}
-use lib.Seq.{take_at, drop-append-add, drop_at, drop-drop, set_split, length-take-le}
+use lib.Seq.{take_at, drop-append-add, drop-drop, set_split, length-take-le}
 use Rattle.list.specs.Memory.{onto, blit}
 
 pub onto_nil : (xs : List ℕ) → onto [] xs ≡ xs

@@ -1,11 +1,9 @@
 -- docs/RULES.md, Composing: the id that composing gives an outer name. Assumes nothing.
-use Rattle.std.specs.Prelude.{◌≡◌, Bool, true, List, [], ◌∷◌, ◌++◌, ℕ, zero, suc, ◌+◌, ◌<◌, ltb, length, get_or}
+use Rattle.std.specs.Prelude.{List, [], ◌∷◌, ◌++◌, ℕ, zero, suc, ◌+◌, ltb, length}
 use Rattle.std.proofs.Math.Option.{Option, none, some}
 use Rattle.list.specs.Pick.{pick}
 use Rattle.token.specs.Table.{no_id}
-use Rattle.names.specs.Names.{NameList, count, sound, name_at, same}
-use Rattle.name_ids.specs.declared.Search.{Search}
-use Rattle.name_ids.specs.declared.NameId.{NameId}
+use Rattle.names.specs.Names.{NameList, count, name_at, same}
 
 -- the first of n names, from the k-th on, with these bytes
 unfoldable pub first_name : NameList → List ℕ → ℕ → ℕ → Option ℕ

@@ -1,6 +1,5 @@
 -- docs/RULES.md, Names: name lists. Assumes nothing.
-use Rattle.std.specs.Prelude.{Bool, true, false, List, [], ◌∷◌, ℕ, zero, suc, ◌+◌, ◌-◌, eqb, leb, ltb, length, take, drop, get_or}
-use Rattle.std.proofs.Math.Option.{Option, none, some}
+use Rattle.std.specs.Prelude.{Bool, true, false, List, [], ◌∷◌, ℕ, zero, suc, ◌-◌, eqb, leb, ltb, length, take, drop, get_or}
 use Rattle.list.specs.Pick.{pick, both}
 use Rattle.names.specs.declared.NamePlace.{NamePlace}
 

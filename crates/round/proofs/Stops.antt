@@ -7,18 +7,15 @@ use native.Mathlib.Omega.{arith}
 use native.Mathlib.Nat.{not-suc-le-zero, add-zero}
 use lib.Dec.{eqb}
 use lib.ListN.{length, drop, length-append}
-use lib.Seq.{drop-drop, drop-append_seam}
 use Rattle.list.specs.Pick.{both}
 use Rattle.code.specs.declared.Code.{Code}
 use Rattle.token.specs.Table.{with_segment, flat}
 use Rattle.token.specs.declared.Token.{Token}
 use Rattle.token.specs.declared.TokenChunk.{TokenChunk}
 use Rattle.value.specs.declared.Mode.{Mode}
-use Rattle.apply.specs.declared.State.{State}
-use Rattle.step.specs.declared.Step.{Step}
-use Rattle.step.specs.Step.{offset_of, step_from, step_at}
+use Rattle.step.specs.Step.{offset_of, step_from}
 use Rattle.decode.specs.Mapping.{Out, token_then, run}
-use Rattle.chunk.specs.Chunk.{lead, fields_of, bytes_of, after, written, end_of}
+use Rattle.chunk.specs.Chunk.{fields_of, bytes_of, after, written, end_of}
 use Rattle.premises.specs.Premises.{fits32}
 use Rattle.checked_premises.specs.Checked.{takes_each, takes_from}
 use Rattle.decode.proofs.Runs.{run_refused}

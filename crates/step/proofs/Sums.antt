@@ -6,7 +6,7 @@ use Prim.Native.Nat.{ℕ, zero, suc, ◌+◌, ◌-◌, ◌/◌, ◌%◌, ◌^◌
 use native.Mathlib.Nat.{mod-eq_of_lt}
 use native.Mathlib.Omega.{arith}
 use lib.Dec.{eqb}
-use lib.IntN.{ℤ, pos, neg_ℤ, ◌+ℤ◌}
+use lib.IntN.{pos, neg_ℤ, ◌+ℤ◌}
 use borrow.Author.Tests.{lt-ltb, le-ltb}
 use Rattle.list.specs.Pick.{pick}
 use Rattle.value.specs.Value.{value_of, number_of}

@@ -1,12 +1,11 @@
 -- Laws of token tables. Assumes nothing.
 use mathlib.Core.Path.{◌≡◌, refl, ap, ap₂, sym, ◌∙◌}
 use mathlib.Core.List.{List, [], ◌∷◌, ◌++◌, append_assoc}
-use Prim.Native.Nat.{ℕ, zero, suc, ◌+◌, ◌-◌, ◌*◌, ◌/◌, ◌≤◌, ◌<◌}
+use Prim.Native.Nat.{ℕ, zero, suc, ◌+◌, ◌-◌, ◌*◌, ◌≤◌, ◌<◌}
 use native.Mathlib.Omega.{arith}
 use native.Mathlib.Nat.{zero-add, add-zero, suc-add}
-use native.Mathlib.Numerals.{add-one}
-use lib.ListN.{length, take, drop, get_or, set, length-append, length-drop}
-use lib.Seq.{sets, sets-eq, get_or-append-add}
+use lib.ListN.{length, take, drop, set}
+use lib.Seq.{sets-eq}
 use Rattle.list.specs.Memory.{onto, blit}
 use Rattle.list.proofs.Memory.{length_onto, blit_onto}
 use Rattle.token.specs.declared.Token.{Token}

@@ -1,19 +1,18 @@
 -- What the sign needs of 64-bit signed numbers: their half, its negation, their lowest bit, and their bits.
 -- Assumes nothing.
-use mathlib.Core.Path.{◌≡◌, refl, sym, ◌∙◌, ap, subst}
-use mathlib.Core.Bool.{Bool, true, false}
-use Prim.Native.Nat.{ℕ, zero, suc, ◌+◌, ◌-◌, ◌*◌, ◌/◌, ◌%◌, ◌^◌, ◌<◌, ◌≤◌}
+use mathlib.Core.Path.{◌≡◌, refl, sym, ◌∙◌, ap}
+use mathlib.Core.Bool.{true, false}
+use Prim.Native.Nat.{ℕ, zero, suc, ◌-◌, ◌%◌, ◌^◌, ◌<◌, ◌≤◌}
 use native.Mathlib.Omega.{arith}
 use lib.IntN.{ℤ, pos, negsuc, neg_ℤ, ◌+ℤ◌, ◌-ℤ◌, +ℤ_idl}
 use lib.Signed.{mag, shr_z}
 use lib.Bits.{bit_and, and_mask}
-use lib.Dec.{eqb}
 use borrow.Author.Tests.{eq-eqb, ne_eqb, lt-ltb, le-ltb}
 use mir.Syntax.{w64}
-use mir.Val.{SFits, of_z, to_z, hbits}
+use mir.Val.{SFits, of_z, to_z}
 use mir.Facts.{to_z_pos}
 use mir.ValLaws.{to_z-of_z}
-use Rattle.value.specs.Value.{as_signed, half, odd, sign_of}
+use Rattle.value.specs.Value.{as_signed, half, odd}
 
 pub half_small : (z : ℤ) → SFits w64 z → mag (half z) < 2 ^ 62
 half_small (pos n) h = omega (arith, h.sfits)

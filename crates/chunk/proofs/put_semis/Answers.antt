@@ -1,4 +1,3 @@
-use Prim.Native.Nat.{◌-◌}
 use native.Mathlib.Omega.{arith}
 use Rattle.chunk.proofs.Lead.{semis_start, semis_same, semis_inside, semis_turn, semis_end}
 use Rattle.chunk.proofs.put_semis.Goals as goal

@@ -1,6 +1,5 @@
 -- `compare_tables::count` meets its contract, by the laws of `Loops`. Assumes nothing.
 use native.Mathlib.Omega.{arith}
-use Prim.Native.Nat.{◌-◌}
 use Rattle.compare_tables.proofs.Loops.{few_tokens, ahead, count_start, count_turn, count_end}
 use Rattle.compare_tables.proofs.count.Goals as goal
 

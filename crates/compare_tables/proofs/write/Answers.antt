@@ -1,6 +1,5 @@
 -- `compare_tables::write` meets its contract, by the laws of `Loops`. Assumes nothing.
 use native.Mathlib.Omega.{arith}
-use Prim.Native.Nat.{◌-◌}
 use Rattle.compare_tables.proofs.Loops.{few_tokens, ahead, narrow_left, narrow_right, write_start, write_long, write_room, write_turn, write_end}
 use Rattle.compare_tables.proofs.write.Goals as goal
 

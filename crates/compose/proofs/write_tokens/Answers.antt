@@ -1,6 +1,5 @@
 -- `compose::write_tokens` meets its contract, by the laws of `Turn`. Assumes nothing.
 use mathlib.Core.Path.{refl, ◌∙◌}
-use Prim.Native.Nat.{◌-◌}
 use native.Mathlib.Omega.{arith}
 use Rattle.compose.proofs.Turn.{begin, long_result, long_added, askable, in_result, turn, ended}
 use Rattle.compose.proofs.write_tokens.Goals as goal

@@ -1,7 +1,6 @@
 -- `decode::decode_in` meets its contract. Assumes nothing.
 use native.Mathlib.Omega.{arith}
 use mathlib.Core.Path.{sym, ◌∙◌}
-use Prim.Native.Nat.{◌-◌}
 use Rattle.decode.proofs.Turn.{begin, moves, long, ended, refused, late, ends_at, no_place, place, less, put}
 use Rattle.decode.proofs.decode_in.Goals as goal
 

@@ -1,4 +1,3 @@
-use Prim.Native.Nat.{◌-◌}
 use native.Mathlib.Omega.{arith}
 use Rattle.chunk.proofs.State.{small_token, small_state}
 use Rattle.encode.proofs.Passing.{passing, passed, goes_back, passes}

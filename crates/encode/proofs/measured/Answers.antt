@@ -1,4 +1,3 @@
-use Prim.Native.Nat.{◌-◌}
 use native.Mathlib.Omega.{arith}
 use Rattle.chunk.proofs.State.{small_token, small_state}
 use Rattle.encode.proofs.Measure.{measuring, measured_all, measured_back, measure_fits, measure_next}

@@ -1,10 +1,6 @@
-use mathlib.Core.Bool.{false}
-use mathlib.Core.Path.{◌≡◌, refl, sym, ◌∙◌}
-use lib.ListN.{length}
-use Rattle.token.specs.Table.{bad_table}
+use mathlib.Core.Path.{refl, sym, ◌∙◌}
 use Rattle.digits.specs.Tables.{writing}
 use Rattle.vlq_write.specs.Near.{near_writing}
-use Rattle.encode.specs.Passes.{Inside}
 use Rattle.encode.proofs.Answer.{inside, answers_bad_table, out_of_order, out_of_table, goes_back, no_room, writable, done}
 use Rattle.encode.proofs.serialize_mappings.Goals as goal
 

@@ -1,7 +1,6 @@
 -- `lookup::best_in` meets its contract, by the laws of `Scan`. Assumes nothing.
 use Rattle.lookup.proofs.Scan.{found_inside, start_none, start_some, best_fits, ended, inside, index_fits, takes, leaves}
 use native.Mathlib.Omega.{arith}
-use Prim.Native.Nat.{◌-◌}
 use mathlib.Core.Path.{sym, ◌∙◌}
 use Rattle.lookup.proofs.best_in.Goals as goal
 use Rattle.lookup.proofs.best_in.Goals.{then-found-ne-NONE, else-found-ne-NONE, then-takes, else-takes}
@@ -12,8 +11,8 @@ token_at-t-requires c = found_inside _ _ _ _ _ _ c.requires.0 c.requires.1 c.if-
 pub loop-i-init : goal.loop-i-init
 loop-i-init c =
     elim c.if-found-ne-NONE.branch [
-      then-found-ne-NONE w ↦ rw w.least-is (start_some _ _ _ _ _ _ c.requires.0 c.requires.1 w.if-found-ne-NONE.true _ w.token_at-t.ensures)
-    | else-found-ne-NONE w ↦ rw w.least-is (start_none _ _ _ _ _ _ c.requires.0 c.requires.1 w.if-found-ne-NONE.false)
+      | then-found-ne-NONE w ↦ rw w.least-is (start_some _ _ _ _ _ _ c.requires.0 c.requires.1 w.if-found-ne-NONE.true _ w.token_at-t.ensures)
+      | else-found-ne-NONE w ↦ rw w.least-is (start_none _ _ _ _ _ _ c.requires.0 c.requires.1 w.if-found-ne-NONE.false)
     ]
 
 pub takes-requires : goal.takes-requires
@@ -31,8 +30,8 @@ loop-i-smaller c = omega arith
 pub loop-i-preserved : goal.loop-i-preserved
 loop-i-preserved c =
     elim c.if-takes.branch [
-      then-takes w ↦ rw (w.best-is, w.least-is) (takes _ _ _ _ _ _ _ _ c.requires.0 c.loop-i.invariant c.loop-i-test.true (sym w.if-takes.true ∙ c.takes.ensures) _ w.token_at-t-then-takes.ensures)
-    | else-takes w ↦ rw (w.best-is, w.least-is) (leaves _ _ _ _ _ _ _ _ c.requires.0 c.loop-i.invariant c.loop-i-test.true (sym w.if-takes.false ∙ c.takes.ensures))
+      | then-takes w ↦ rw (w.best-is, w.least-is) (takes _ _ _ _ _ _ _ _ c.requires.0 c.loop-i.invariant c.loop-i-test.true (sym w.if-takes.true ∙ c.takes.ensures) _ w.token_at-t-then-takes.ensures)
+      | else-takes w ↦ rw (w.best-is, w.least-is) (leaves _ _ _ _ _ _ _ _ c.requires.0 c.loop-i.invariant c.loop-i-test.true (sym w.if-takes.false ∙ c.takes.ensures))
     ]
 
 pub overflow_cast-result : goal.overflow_cast-result

@@ -1,6 +1,5 @@
 -- `lookup_many::block_of` meets its contract, by the laws of `Blocks`. Assumes nothing.
 use native.Mathlib.Omega.{arith}
-use Prim.Native.Nat.{◌-◌}
 use Rattle.lookup_many.proofs.Blocks.{first, inside, last_small, spanned, takes, leaves}
 use Rattle.lookup_many.proofs.block_of.Goals as goal
 use Rattle.lookup_many.proofs.block_of.Goals.{then-p-least, else-p-least, then-most-p, else-most-p}
@@ -26,16 +25,16 @@ loop-i-smaller c = omega arith
 pub loop-i-preserved : goal.loop-i-preserved
 loop-i-preserved c =
     elim c.if-p-least.branch [
-      then-p-least v ↦
-        elim c.if-most-p.branch [
-          then-most-p w ↦ rw (w.most-is, w.last-is) (takes _ _ _ _ _ _ _ c.loop-i.invariant c.loop-i-test.true _ c.key_at-p.ensures _ (omega (arith, v.if-p-least.true, v.least-is)) (omega (arith, v.least-is)) w.if-most-p.true)
-        | else-most-p w ↦ rw (w.most-is, w.last-is) (leaves _ _ _ _ _ _ _ c.loop-i.invariant c.loop-i-test.true _ c.key_at-p.ensures _ (omega (arith, v.if-p-least.true, v.least-is)) (omega (arith, v.least-is)) w.if-most-p.false)
-        ]
-    | else-p-least v ↦
-        elim c.if-most-p.branch [
-          then-most-p w ↦ rw (w.most-is, w.last-is) (takes _ _ _ _ _ _ _ c.loop-i.invariant c.loop-i-test.true _ c.key_at-p.ensures _ (omega (arith, v.least-is)) (omega (arith, v.if-p-least.false, v.least-is)) w.if-most-p.true)
-        | else-most-p w ↦ rw (w.most-is, w.last-is) (leaves _ _ _ _ _ _ _ c.loop-i.invariant c.loop-i-test.true _ c.key_at-p.ensures _ (omega (arith, v.least-is)) (omega (arith, v.if-p-least.false, v.least-is)) w.if-most-p.false)
-        ]
+      | then-p-least v ↦
+          elim c.if-most-p.branch [
+            | then-most-p w ↦ rw (w.most-is, w.last-is) (takes _ _ _ _ _ _ _ c.loop-i.invariant c.loop-i-test.true _ c.key_at-p.ensures _ (omega (arith, v.if-p-least.true, v.least-is)) (omega (arith, v.least-is)) w.if-most-p.true)
+            | else-most-p w ↦ rw (w.most-is, w.last-is) (leaves _ _ _ _ _ _ _ c.loop-i.invariant c.loop-i-test.true _ c.key_at-p.ensures _ (omega (arith, v.if-p-least.true, v.least-is)) (omega (arith, v.least-is)) w.if-most-p.false)
+          ]
+      | else-p-least v ↦
+          elim c.if-most-p.branch [
+            | then-most-p w ↦ rw (w.most-is, w.last-is) (takes _ _ _ _ _ _ _ c.loop-i.invariant c.loop-i-test.true _ c.key_at-p.ensures _ (omega (arith, v.least-is)) (omega (arith, v.if-p-least.false, v.least-is)) w.if-most-p.true)
+            | else-most-p w ↦ rw (w.most-is, w.last-is) (leaves _ _ _ _ _ _ _ c.loop-i.invariant c.loop-i-test.true _ c.key_at-p.ensures _ (omega (arith, v.least-is)) (omega (arith, v.if-p-least.false, v.least-is)) w.if-most-p.false)
+          ]
     ]
 
 pub overflow_cast-latest : goal.overflow_cast-latest

@@ -1,7 +1,6 @@
 -- `lookup_many::look_all` meets its contract, by the laws of `Pairs`. Assumes nothing.
 use Prim.Native.Nat.{◌-◌, ◌≤◌}
 use Rattle.lookup_many.specs.Blocks.{Held}
-use Rattle.token.specs.Table.{places}
 use Rattle.lookup_many.proofs.look_all.Given as goal
 
 abbrev pub invariant-loop-i : goal.invariant-loop-i

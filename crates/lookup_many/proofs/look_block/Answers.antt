@@ -1,7 +1,6 @@
 -- `lookup_many::look_block` meets its contract, by the laws of `Pairs`. Assumes nothing.
 use native.Mathlib.Omega.{arith}
 use mathlib.Core.Path.{sym, ◌∙◌, ap}
-use Prim.Native.Nat.{◌-◌}
 use Rattle.lookup.specs.Lookup.{best_of}
 use Rattle.lookup.specs.Parts.{index_of}
 use Rattle.lookup_many.specs.declared.Pair.{Pair}

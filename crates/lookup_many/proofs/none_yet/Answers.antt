@@ -1,6 +1,5 @@
 -- `lookup_many::none_yet` meets its contract, by the laws of `Pairs`. Assumes nothing.
 use native.Mathlib.Omega.{arith}
-use Prim.Native.Nat.{◌-◌}
 use mathlib.Core.Path.{refl}
 use Rattle.lookup.proofs.Scan.{from_nothing}
 use Rattle.lookup_many.proofs.Pairs.{begin, inside, next, filled}

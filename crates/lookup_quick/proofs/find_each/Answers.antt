@@ -1,7 +1,6 @@
 -- `lookup_quick::find_each` meets its contract, by the laws of `Pairs`. Assumes nothing.
 use native.Mathlib.Omega.{arith}
 use mathlib.Core.Path.{sym, ◌∙◌, ap, subst}
-use Prim.Native.Nat.{◌-◌}
 use lib.ListN.{get_or}
 use Rattle.order.specs.Keys.{key_of}
 use Rattle.lookup.specs.Lookup.{lookup_of}

@@ -1,7 +1,6 @@
 -- `lookup_quick::quarter_each` meets its contract, by the laws of `Pairs`. Assumes nothing.
 use native.Mathlib.Omega.{arith}
 use mathlib.Core.Path.{◌∙◌, ap}
-use Prim.Native.Nat.{◌-◌}
 use lib.ListN.{length}
 use Rattle.token.proofs.Whole.{few}
 use Rattle.order.specs.Keys.{key_of}

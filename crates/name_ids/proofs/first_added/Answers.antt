@@ -1,4 +1,3 @@
-use Prim.Native.Nat.{◌-◌}
 use native.Mathlib.Omega.{arith}
 use Rattle.name_ids.proofs.Find.{told, begin, hit, moves, missed}
 use Rattle.name_ids.proofs.first_added.Goals as goal

@@ -2,7 +2,6 @@
 use native.Mathlib.Omega.{arith}
 use native.Mathlib.Numerals.{add-one}
 use mathlib.Core.Path.{refl, sym, ◌∙◌}
-use Prim.Native.Nat.{◌-◌}
 use Rattle.name_ids.proofs.Find.{start, found, goes_on, ended}
 use Rattle.name_ids.proofs.first_name.Goals as goal
 

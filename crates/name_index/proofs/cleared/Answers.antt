@@ -1,5 +1,4 @@
 -- `name_index::cleared` meets its contract, by the laws of `Build`. Assumes nothing.
-use Prim.Native.Nat.{◌-◌}
 use native.Mathlib.Omega.{arith}
 use Rattle.name_index.proofs.Build.{clear_start, clear_step}
 use Rattle.name_index.proofs.cleared.Goals as goal

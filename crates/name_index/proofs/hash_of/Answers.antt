@@ -1,5 +1,4 @@
 -- `name_index::hash_of` meets its contract, by the laws of `Slots`. Assumes nothing.
-use Prim.Native.Nat.{◌-◌}
 use native.Mathlib.Omega.{arith}
 use Rattle.name_index.proofs.Slots.{start, step, ended}
 use Rattle.name_index.proofs.hash_of.Goals as goal

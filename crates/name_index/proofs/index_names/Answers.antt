@@ -1,5 +1,4 @@
 -- `name_index::index_names` meets its contract, by the laws of `Slots` and `Build`. Assumes nothing.
-use Prim.Native.Nat.{◌-◌}
 use native.Mathlib.Omega.{arith}
 use Rattle.names.proofs.Ends.{few}
 use Rattle.name_index.proofs.Slots.{few_slots}

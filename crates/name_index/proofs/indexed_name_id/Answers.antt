@@ -10,8 +10,8 @@ use Rattle.name_index.proofs.indexed_name_id.Goals.{then-found-inner, else-found
 found_small : (c : goal.After-row_known-1) → c.if-found-inner.found < 4294967294
 found_small c =
     elim c.if-found-inner.branch [
-      then-found-inner w ↦ omega (arith, w.found-is, few_slots _ _ c.requires.0.first c.requires.0.second, within _ _ _ _ c.requires.0 c.requires.1 _ (omega arith) _ c.name_at-name.ensures _ c.latest_same-behind.ensures)
-    | else-found-inner w ↦ omega (arith, w.found-is, few_slots _ _ c.requires.0.first c.requires.0.second, within _ _ _ _ c.requires.0 c.requires.1 _ (omega arith) _ c.name_at-name.ensures _ c.latest_same-behind.ensures)
+      | then-found-inner w ↦ omega (arith, w.found-is, few_slots _ _ c.requires.0.first c.requires.0.second, within _ _ _ _ c.requires.0 c.requires.1 _ (omega arith) _ c.name_at-name.ensures _ c.latest_same-behind.ensures)
+      | else-found-inner w ↦ omega (arith, w.found-is, few_slots _ _ c.requires.0.first c.requires.0.second, within _ _ _ _ c.requires.0 c.requires.1 _ (omega arith) _ c.name_at-name.ensures _ c.latest_same-behind.ensures)
     ]
 
 pub returns-then-outer_ends-k : goal.returns-then-outer_ends-k

@@ -1,4 +1,3 @@
-use Prim.Native.Nat.{◌-◌}
 use Rattle.names.proofs.Bytes.{differs, start, unlike, goes_on, ended}
 use Rattle.names.proofs.same_bytes.Goals as goal
 

@@ -1,5 +1,4 @@
 use native.Mathlib.Omega.{arith}
-use Prim.Native.Nat.{◌-◌}
 use Rattle.names.proofs.Ends.{too_many, start, falls, goes_on, ended}
 use Rattle.names.proofs.sound_names.Goals as goal
 

@@ -1,6 +1,5 @@
 -- `order::fall_behind` meets its contract, by the laws of `Rise`. Assumes nothing.
 use native.Mathlib.Omega.{arith}
-use Prim.Native.Nat.{◌-◌}
 use mathlib.Core.Path.{refl}
 use Rattle.order.proofs.Rise.{alone, next, falls_here, none_falls}
 use Rattle.order.proofs.fall_behind.Goals as goal

@@ -1,6 +1,5 @@
 -- `order::parts_rise` meets its contract, by the laws of `Rise`. Assumes nothing.
 use native.Mathlib.Omega.{arith}
-use Prim.Native.Nat.{◌-◌}
 use Rattle.order.proofs.Rise.{begin, one_falls, two_falls, three_falls, four_falls, turn, all_rise, says_yes, says_no}
 use Rattle.order.proofs.parts_rise.Goals as goal
 

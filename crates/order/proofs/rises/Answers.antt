@@ -1,6 +1,5 @@
 -- `order::rises` meets its contract, by the laws of `Rise`. Assumes nothing.
 use native.Mathlib.Omega.{arith}
-use Prim.Native.Nat.{◌-◌}
 use mathlib.Core.Path.{refl}
 use Rattle.order.proofs.Rise.{alone, next, fell, says_yes, says_no}
 use Rattle.order.proofs.rises.Goals as goal

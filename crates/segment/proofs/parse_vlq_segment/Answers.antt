@@ -1,7 +1,7 @@
 -- `segment::parse_vlq_segment` meets its contract. Assumes nothing.
 use Rattle.segment.proofs.OneDigit.{found, ended, was_cut, was_long}
 use Rattle.segment.proofs.Loop.{Turn, start, ends, cut, long, stores, counts, widens}
-use Rattle.std.proofs.Common.{◌-◌, sym, ◌∙◌, ⊎_elim, arith}
+use Rattle.std.proofs.Common.{sym, ◌∙◌, arith}
 use Rattle.value.specs.declared.Judged.TheVariants.{Is, Wide}
 use Rattle.segment.proofs.parse_vlq_segment.Goals as goal
 use Rattle.segment.proofs.parse_vlq_segment.Goals.{in-Value+then-count-lt5, in-Value+else-count-lt5, in-Wide}
@@ -10,9 +10,9 @@ turned : (c : goal.Joined-f) → Turn c.args.mode c.args.s.now c.args.at c.loop-
 turned c =
     let p = c.loop-nums.invariant in let e = c.next_field-f.ensures in
     elim c.match-f.branch [
-      in-Value+then-count-lt5 v ↦ let w = found _ _ _ (Is _) _ (sym v.in-Value.is ∙ e) in rw (v.nums-is, v.wide-is, v.i-is) (stores _ _ _ _ _ _ _ p _ _ _ w.is _ w.value v.if-count-lt5.true)
-    | in-Value+else-count-lt5 v ↦ let w = found _ _ _ (Is _) _ (sym v.in-Value.is ∙ e) in rw (v.nums-is, v.wide-is, v.i-is) (counts _ _ _ _ _ _ _ p _ _ _ w.is _ w.value v.if-count-lt5.false)
-    | in-Wide v ↦ let w = found _ _ _ Wide _ (sym v.in-Wide.is ∙ e) in rw (v.nums-is, v.wide-is, v.i-is) (widens _ _ _ _ _ _ _ p _ _ _ w.is w.value _ v.first_wide-wide.ensures)
+      | in-Value+then-count-lt5 v ↦ let w = found _ _ _ (Is _) _ (sym v.in-Value.is ∙ e) in rw (v.nums-is, v.wide-is, v.i-is) (stores _ _ _ _ _ _ _ p _ _ _ w.is _ w.value v.if-count-lt5.true)
+      | in-Value+else-count-lt5 v ↦ let w = found _ _ _ (Is _) _ (sym v.in-Value.is ∙ e) in rw (v.nums-is, v.wide-is, v.i-is) (counts _ _ _ _ _ _ _ p _ _ _ w.is _ w.value v.if-count-lt5.false)
+      | in-Wide v ↦ let w = found _ _ _ Wide _ (sym v.in-Wide.is ∙ e) in rw (v.nums-is, v.wide-is, v.i-is) (widens _ _ _ _ _ _ _ p _ _ _ w.is w.value _ v.first_wide-wide.ensures)
     ]
 
 pub loop-nums-init : goal.loop-nums-init

@@ -1,6 +1,5 @@
 -- `step::next_segment` meets its contract. Assumes nothing.
 use mathlib.Core.Path.{refl, sym, ◌∙◌}
-use Prim.Native.Nat.{◌-◌}
 use Rattle.step.proofs.Laws.{begins, ends, stands, crosses, less, on}
 use Rattle.step.proofs.next_segment.Goals as goal
 

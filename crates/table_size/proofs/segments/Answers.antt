@@ -1,5 +1,4 @@
 -- `table_size::segments` meets its contract. The invariant: what begins before the place is counted. Assumes nothing.
-use Prim.Native.Nat.{◌-◌}
 use native.Mathlib.Omega.{arith}
 use Rattle.table_size.proofs.Count.{begins, ends, turns}
 use Rattle.table_size.proofs.segments.Goals as goal

@@ -1,5 +1,5 @@
 -- `translate::code_for` meets its contract, by the laws of `Scan`. Assumes nothing.
-use Rattle.std.proofs.Common.{◌-◌, sym, ◌∙◌, arith}
+use Rattle.std.proofs.Common.{sym, ◌∙◌, arith}
 use Rattle.translate.proofs.Scan.{start, is_bad, is_done, index_fits, cleared, inside, found, passed}
 use Rattle.translate.proofs.code_for.Goals as goal
 

@@ -1,5 +1,5 @@
 -- `translate::move_all` meets its contract, by the laws of `Moving`. Assumes nothing.
-use Rattle.std.proofs.Common.{◌-◌, arith}
+use Rattle.std.proofs.Common.{arith}
 use Rattle.translate.proofs.Moving.{start, long, ended, inside, fine, puts}
 use Rattle.translate.proofs.move_all.Goals as goal
 

@@ -1,5 +1,5 @@
 -- `translate::none_too_big` meets its contract, by the laws of `Pass`. Assumes nothing.
-use Rattle.std.proofs.Common.{◌-◌, sym, ◌∙◌, arith}
+use Rattle.std.proofs.Common.{sym, ◌∙◌, arith}
 use Rattle.translate.proofs.Pass.{start, here, there, turn, none_big}
 use Rattle.translate.proofs.none_too_big.Goals as goal
 

@@ -1,7 +1,6 @@
 -- `vlq::next_vlq` meets its contract. Assumes nothing.
 use Rattle.vlq.proofs.Steps.{past_end, begins_not, begins, ends, cut_at, over_at, last_at, turn_at}
 use native.Mathlib.Omega.{arith}
-use Prim.Native.Nat.{◌-◌}
 use mathlib.Core.Path.{sym}
 use Rattle.vlq.proofs.next_vlq.Goals as goal
 

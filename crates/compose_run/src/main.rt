@@ -30,13 +30,7 @@ fn print_rows(rt: &impl Print, numbers: &[u32]) -> io::Result<()> {
     Ok(())
 }
 
-fn print_name(
-    rt: &impl Print,
-    id: u32,
-    p: NamePlace,
-    name: &[u8],
-    exists: bool,
-) -> io::Result<()> {
+fn print_name(rt: &impl Print, id: u32, p: NamePlace, name: &[u8], exists: bool) -> io::Result<()> {
     rt.print(id)?;
     if exists {
         rt.write_all(b" yes ")?;
@@ -262,9 +256,39 @@ fn bad_tables(rt: &impl Print) -> io::Result<()> {
     let inner = [0u32, 0, 8, 9, 0, token::NONE, 6];
     let fall = [2usize, 1];
     let past = [3usize];
-    small(rt, b"sources", &outer[..6], 2, &fall, &inner[..6], &past, 6, 0)?;
-    small(rt, b"outer table", &outer[..6], 1, &fall, &inner, &past, 6, 0)?;
-    small(rt, b"inner table", &outer, 1, &fall, &inner[..6], &past, 6, 0)?;
+    small(
+        rt,
+        b"sources",
+        &outer[..6],
+        2,
+        &fall,
+        &inner[..6],
+        &past,
+        6,
+        0,
+    )?;
+    small(
+        rt,
+        b"outer table",
+        &outer[..6],
+        1,
+        &fall,
+        &inner,
+        &past,
+        6,
+        0,
+    )?;
+    small(
+        rt,
+        b"inner table",
+        &outer,
+        1,
+        &fall,
+        &inner[..6],
+        &past,
+        6,
+        0,
+    )?;
     Ok(())
 }
 
@@ -275,8 +299,28 @@ fn bad_names(rt: &impl Print) -> io::Result<()> {
     let ends = [2usize];
     let fall = [2usize, 1];
     let past = [3usize];
-    small(rt, b"outer names", &outer, 1, &fall, &inner[..0], &past, 6, 0)?;
-    small(rt, b"inner names", &outer, 1, &ends, &inner[..0], &past, 6, 0)?;
+    small(
+        rt,
+        b"outer names",
+        &outer,
+        1,
+        &fall,
+        &inner[..0],
+        &past,
+        6,
+        0,
+    )?;
+    small(
+        rt,
+        b"inner names",
+        &outer,
+        1,
+        &ends,
+        &inner[..0],
+        &past,
+        6,
+        0,
+    )?;
     small(rt, b"full", &outer, 1, &ends, &inner[..0], &past[..0], 6, 0)?;
     small(rt, b"room", &outer, 1, &ends, &inner[..0], &past[..0], 7, 0)?;
     Ok(())

@@ -1,4 +1,5 @@
 -- `compose::half_made` meets its contract, by the laws of `Step`. Assumes nothing.
+use borrow.Author.Rules.{rules}
 use Rattle.compose.proofs.Step.{no_source, within, not_found, sourceless, mapped}
 use Rattle.compose.proofs.half_made.Goals as goal
 
@@ -18,4 +19,4 @@ pub returns-then-o : goal.returns-then-o
 returns-then-o c = sourceless _ _ _ _ c.seek-s.ensures.next c.if-t-eq-NONE.false c.requires.0 _ c.seek-s.ensures.found c.if-s.false _ c.token_at-o.ensures c.if-o.true _ c.unmapped_token-then-o.ensures
 
 pub returns : goal.returns
-returns c = mapped _ _ _ _ c.seek-s.ensures.next c.if-t-eq-NONE.false c.requires.0 _ c.seek-s.ensures.found c.if-s.false _ c.token_at-o.ensures c.if-o.false _ c.mapped_to.ensures
+returns c = mapped _ _ _ _ c.seek-s.ensures.next c.if-t-eq-NONE.false c.requires.0 _ c.seek-s.ensures.found c.if-s.false _ c.token_at-o.ensures (search rules) _ c.mapped_to.ensures

@@ -6,20 +6,11 @@ use Rattle.lines.proofs.put_word.Goals as goal
 pub loop-i-init : goal.loop-i-init
 loop-i-init c = copying _ _ _ c.requires
 
-pub bounds-word-i : goal.bounds-word-i
-bounds-word-i c = c.loop-i-test.true
-
 pub overflow_add-out : goal.overflow_add-out
 overflow_add-out c = omega (arith, copy_fits _ _ _ _ _ c.loop-i.invariant c.loop-i-test.true, copy_same _ _ _ _ _ c.loop-i.invariant)
 
 pub bounds-out-at : goal.bounds-out-at
 bounds-out-at c = copy_fits _ _ _ _ _ c.loop-i.invariant c.loop-i-test.true
-
-pub overflow_add-i : goal.overflow_add-i
-overflow_add-i c = omega arith
-
-pub loop-i-smaller : goal.loop-i-smaller
-loop-i-smaller c = omega arith
 
 pub loop-i-preserved : goal.loop-i-preserved
 loop-i-preserved c = copies _ _ _ _ _ c.loop-i.invariant c.loop-i-test.true

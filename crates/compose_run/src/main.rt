@@ -6,86 +6,87 @@ ghost use Rattle.std.specs.Prelude.{◌≤◌, length};
 
 use compose::Composed;
 use names::NamePlace;
+use std::io;
 
 // A number, and a line's end after the last of a row.
-fn print_cell(x: u32, last: bool) {
+fn print_cell(rt: &impl Print, x: u32, last: bool) -> io::Result<()> {
     if x == token::NONE {
-        io::write_all(1, b"-");
+        rt.write_all(b"-")?;
     } else {
-        io::print_decimal(1, x as u64);
+        rt.print(x)?;
     }
     if last {
-        io::write_all(1, b"\n");
-    } else {
-        io::write_all(1, b" ");
+        return rt.write_all(b"\n");
     }
+    rt.write_all(b" ")
 }
 
-fn print_rows(numbers: &[u32]) {
+fn print_rows(rt: &impl Print, numbers: &[u32]) -> io::Result<()> {
     let mut i: usize = 0;
     while i < numbers.len() {
-        print_cell(numbers[i], i % token::WIDTH == token::WIDTH - 1);
+        print_cell(rt, numbers[i], i % token::WIDTH == token::WIDTH - 1)?;
         i += 1;
     }
+    Ok(())
 }
 
-fn print_name(id: u32, p: NamePlace, name: &[u8], exists: bool) {
-    io::print_decimal(1, id as u64);
+fn print_name(rt: &impl Print, id: u32, p: NamePlace, name: &[u8], exists: bool) -> io::Result<()> {
+    rt.print(id)?;
     if exists {
-        io::write_all(1, b" yes ");
+        rt.write_all(b" yes ")?;
     } else {
-        io::write_all(1, b" no ");
+        rt.write_all(b" no ")?;
     }
-    io::print_decimal(1, p.start as u64);
-    io::write_all(1, b" ");
-    io::print_decimal(1, p.end as u64);
+    rt.print(p.start)?;
+    rt.write_all(b" ")?;
+    rt.print(p.end)?;
     if p.outer {
-        io::write_all(1, b" outer [");
+        rt.write_all(b" outer [")?;
     } else {
-        io::write_all(1, b" inner [");
+        rt.write_all(b" inner [")?;
     }
-    io::write_all(1, name);
-    io::write_all(1, b"]\n");
+    rt.write_all(name)?;
+    rt.write_all(b"]\n")
 }
 
 fn print_names<'a>(
+    rt: &impl Print,
     inner: &'a [u8],
     inner_ends: &[usize],
     outer: &'a [u8],
     outer_ends: &[usize],
     added: &[u32],
     limit: u32,
-) {
+) -> io::Result<()> {
     let mut id: u32 = 0;
     while id < limit {
         print_name(
+            rt,
             id,
             names::name_place(inner, inner_ends, outer, outer_ends, added, id),
             names::name_of(inner, inner_ends, outer, outer_ends, added, id),
             names::name_exists(inner, inner_ends, outer, outer_ends, added, id),
-        );
+        )?;
         id += 1;
     }
+    Ok(())
 }
 
-fn print_answer(c: Composed) {
-    let code = c.code;
-    io::write_all(1, b"code ");
-    io::print_decimal(1, code::code_of(code));
-    io::write_all(1, b" ");
-    io::print_decimal(1, code::number_of(code));
-    io::write_all(1, b" added ");
-    io::print_decimal(1, c.added as u64);
-    io::write_all(1, b"\n");
+fn print_answer(rt: &impl Print, c: Composed) -> io::Result<()> {
+    let code = code::code_of(c.code);
+    let number = code::number_of(c.code);
+    let added = c.added;
+    println!(rt; "code {code} {number} added {added}")
 }
 
-fn print_line(text: &[u8]) {
-    io::write_all(1, text);
-    io::write_all(1, b"\n");
+fn print_line(rt: &impl Print, text: &[u8]) -> io::Result<()> {
+    rt.write_all(text)?;
+    rt.write_all(b"\n")
 }
 
 // One composition and all of its answer, with the names of the ids below a limit.
 fn run<'a>(
+    rt: &impl Print,
     outer: &[u32],
     sources: u32,
     outer_names: &'a [u8],
@@ -96,7 +97,7 @@ fn run<'a>(
     res: &mut [u32],
     added: &mut [u32],
     limit: u32,
-) {
+) -> io::Result<()> {
     let c = compose::compose(
         outer,
         sources,
@@ -108,19 +109,20 @@ fn run<'a>(
         res,
         added,
     );
-    print_answer(c);
-    print_rows(res);
-    print_line(b"");
-    print_rows(added);
-    print_line(b"");
+    print_answer(rt, c)?;
+    print_rows(rt, res)?;
+    print_line(rt, b"")?;
+    print_rows(rt, added)?;
+    print_line(rt, b"")?;
     print_names(
+        rt,
         inner_names,
         inner_ends,
         outer_names,
         outer_ends,
         added,
         limit,
-    );
+    )
 }
 
 // A number below 36 by its digit; none by anything else.
@@ -162,15 +164,16 @@ fn outer_table() -> [u32; 91] {
 }
 
 // Found and not, the inner token's name and the outer's, equal names once, an empty name, a name id past its list.
-fn maps() {
+fn maps(rt: &impl Print) -> io::Result<()> {
     let inner = inner_table();
     let outer = outer_table();
     let outer_ends = [4usize, 9, 9, 14, 19];
     let inner_ends = [5usize, 9];
     let mut result = [7u32; 100];
     let mut added = [77u32; 6];
-    print_line(b"maps");
+    print_line(rt, b"maps")?;
     run(
+        rt,
         &outer,
         1,
         b"betagammagammaalpha",
@@ -181,11 +184,11 @@ fn maps() {
         &mut result,
         &mut added,
         5,
-    );
+    )
 }
 
 // The same maps with so many places of working memory, which hold numbers already: it takes 19.
-fn maps_with(label: &[u8], places: usize)
+fn maps_with(rt: &impl Print, label: &[u8], places: usize) -> io::Result<()>
     requires { places ≤ 19 }
 {
     let inner = inner_table();
@@ -195,7 +198,7 @@ fn maps_with(label: &[u8], places: usize)
     let mut result = [7u32; 100];
     let mut added = [77u32; 6];
     let mut work = [1u32; 19];
-    print_line(label);
+    print_line(rt, label)?;
     let c = compose::compose_with(
         &outer,
         1,
@@ -208,15 +211,16 @@ fn maps_with(label: &[u8], places: usize)
         &mut added,
         &mut work[..places],
     );
-    print_answer(c);
-    print_rows(&result);
-    print_line(b"");
-    print_rows(&added);
-    print_line(b"");
+    print_answer(rt, c)?;
+    print_rows(rt, &result)?;
+    print_line(rt, b"")?;
+    print_rows(rt, &added)?;
+    print_line(rt, b"")
 }
 
 // One composition over the names of "xy", into so many numbers and so many places.
 fn small(
+    rt: &impl Print,
     label: &[u8],
     outer: &[u32],
     sources: u32,
@@ -225,13 +229,14 @@ fn small(
     inner_ends: &[usize],
     numbers: usize,
     room: usize,
-)
+) -> io::Result<()>
     requires { (numbers ≤ 7) × (room ≤ 2) }
 {
     let mut result = [7u32; 7];
     let mut added = [77u32; 2];
-    print_line(label);
+    print_line(rt, label)?;
     run(
+        rt,
         outer,
         sources,
         b"xy",
@@ -242,46 +247,99 @@ fn small(
         &mut result[..numbers],
         &mut added[..room],
         2,
-    );
+    )
 }
 
 // A bad table, and every later test failing too.
-fn bad_tables() {
+fn bad_tables(rt: &impl Print) -> io::Result<()> {
     let outer = [0u32, 0, 0, 0, 0, 0, 5];
     let inner = [0u32, 0, 8, 9, 0, token::NONE, 6];
     let fall = [2usize, 1];
     let past = [3usize];
-    small(b"sources", &outer[..6], 2, &fall, &inner[..6], &past, 6, 0);
-    small(b"outer table", &outer[..6], 1, &fall, &inner, &past, 6, 0);
-    small(b"inner table", &outer, 1, &fall, &inner[..6], &past, 6, 0);
+    small(
+        rt,
+        b"sources",
+        &outer[..6],
+        2,
+        &fall,
+        &inner[..6],
+        &past,
+        6,
+        0,
+    )?;
+    small(
+        rt,
+        b"outer table",
+        &outer[..6],
+        1,
+        &fall,
+        &inner,
+        &past,
+        6,
+        0,
+    )?;
+    small(
+        rt,
+        b"inner table",
+        &outer,
+        1,
+        &fall,
+        &inner[..6],
+        &past,
+        6,
+        0,
+    )?;
+    Ok(())
 }
 
 // A bad list, or too little room, and every later test failing too.
-fn bad_names() {
+fn bad_names(rt: &impl Print) -> io::Result<()> {
     let outer = [0u32, 0, 0, 0, 0, 0, 5];
     let inner = [0u32];
     let ends = [2usize];
     let fall = [2usize, 1];
     let past = [3usize];
-    small(b"outer names", &outer, 1, &fall, &inner[..0], &past, 6, 0);
-    small(b"inner names", &outer, 1, &ends, &inner[..0], &past, 6, 0);
-    small(b"full", &outer, 1, &ends, &inner[..0], &past[..0], 6, 0);
-    small(b"room", &outer, 1, &ends, &inner[..0], &past[..0], 7, 0);
+    small(
+        rt,
+        b"outer names",
+        &outer,
+        1,
+        &fall,
+        &inner[..0],
+        &past,
+        6,
+        0,
+    )?;
+    small(
+        rt,
+        b"inner names",
+        &outer,
+        1,
+        &ends,
+        &inner[..0],
+        &past,
+        6,
+        0,
+    )?;
+    small(rt, b"full", &outer, 1, &ends, &inner[..0], &past[..0], 6, 0)?;
+    small(rt, b"room", &outer, 1, &ends, &inner[..0], &past[..0], 7, 0)?;
+    Ok(())
 }
 
 // Equal names, and empty tables, lists and names.
-fn empties() {
+fn empties(rt: &impl Print) -> io::Result<()> {
     let outer = [0u32, 0, 0, 0, 0, 0, 5];
     let inner = [0u32, 0, 8, 9, 0, token::NONE, 6];
     let all = [2usize];
     let none = [0usize];
     let both = [0usize, 2];
-    small(b"equal", &outer, 1, &all, &inner, &both, 7, 1);
-    small(b"empty", &outer, 1, &none, &inner, &both, 7, 1);
-    small(b"no names", &outer, 1, &all, &inner, &both[..0], 7, 2);
-    small(b"no inner", &outer, 1, &all, &inner[..0], &both, 7, 2);
-    small(b"no outer", &outer[..0], 0, &all, &inner, &both, 7, 2);
+    small(rt, b"equal", &outer, 1, &all, &inner, &both, 7, 1)?;
+    small(rt, b"empty", &outer, 1, &none, &inner, &both, 7, 1)?;
+    small(rt, b"no names", &outer, 1, &all, &inner, &both[..0], 7, 2)?;
+    small(rt, b"no inner", &outer, 1, &all, &inner[..0], &both, 7, 2)?;
+    small(rt, b"no outer", &outer[..0], 0, &all, &inner, &both, 7, 2)?;
     small(
+        rt,
         b"nothing",
         &outer[..0],
         0,
@@ -290,14 +348,15 @@ fn empties() {
         &both[..0],
         0,
         0,
-    );
+    )?;
+    Ok(())
 }
 
-fn main() {
-    maps();
-    bad_tables();
-    bad_names();
-    empties();
-    maps_with(b"with working memory", 19);
-    maps_with(b"with too little", 18);
+fn main(rt: HostRuntime) -> io::Result<()> {
+    maps(&rt)?;
+    bad_tables(&rt)?;
+    bad_names(&rt)?;
+    empties(&rt)?;
+    maps_with(&rt, b"with working memory", 19)?;
+    maps_with(&rt, b"with too little", 18)
 }

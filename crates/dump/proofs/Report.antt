@@ -1,11 +1,10 @@
 -- What a decode gave, as the lines that are put for it. Assumes nothing.
-use mathlib.Core.Path.{◌≡◌, ap, sym, ◌∙◌}
+use mathlib.Core.Path.{◌≡◌, ap}
 use mathlib.Core.List.{List, ◌++◌}
 use Prim.Native.Nat.{ℕ, ◌+◌, ◌*◌, ◌≤◌}
 use native.Mathlib.Omega.{arith}
 use lib.ListN.{length, drop, length-append}
 use Rattle.list.specs.Memory.{onto}
-use Rattle.list.specs.Put.{Put}
 use Rattle.list.proofs.Put.{put_then, put_long}
 use Rattle.token.specs.Table.{places, tokens_from, flat, over}
 use Rattle.token.specs.declared.Token.{Token}

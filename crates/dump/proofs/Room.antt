@@ -1,7 +1,7 @@
 -- A decode writes no more tokens than the table has places for. Assumes nothing.
 use mathlib.Core.Path.{◌≡◌, ap, ◌∙◌}
 use mathlib.Core.List.{List}
-use Prim.Native.Nat.{ℕ, zero, suc, ◌≤◌}
+use Prim.Native.Nat.{ℕ, ◌≤◌}
 use native.Mathlib.Omega.{arith}
 use lib.ListN.{length}
 use Rattle.token.specs.Table.{places}
@@ -9,7 +9,7 @@ use Rattle.token.proofs.Laws.{length_over}
 use Rattle.value.specs.declared.Mode.{Mode}
 use Rattle.apply.specs.declared.State.{State}
 use Rattle.step.specs.Step.{start}
-use Rattle.decode.specs.Mapping.{Out, run, decoded, Decodes}
+use Rattle.decode.specs.Mapping.{run, decoded, Decodes}
 use Rattle.decode.proofs.Runs.{run_by}
 use Rattle.decode.specs.declared.Decoded.{Decoded}
 

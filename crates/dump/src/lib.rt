@@ -10,6 +10,8 @@ ghost use Rattle.lines.specs.Parts.{PutMost};
 ghost use Rattle.dump.specs.Rendered.{report, rendered, Renders};
 
 use first_line::FirstLine;
+use std::io;
+use std::io::Read;
 
 // The longest input that is taken.
 const MOST: usize = 16384;
@@ -55,42 +57,41 @@ pub fn render(input: &[u8], out: &mut [u8; ROOM]) -> usize
     render_in(input, out)
 }
 
-// Hands to standard output what is printed for an input. This call is all that no contract can speak of: where it fails, that
-// is said on standard error, since a program has no exit status.
-fn hand_over(input: &[u8], bytes: &[u8])
+// Hands to standard output what is printed for an input. This call is all that no contract can speak of; where it fails, the
+// error is given back.
+fn hand_over(rt: &impl Print, input: &[u8], bytes: &[u8]) -> io::Result<()>
     requires { bytes.now ≡ rendered input.now }
 {
-    if !io::write_all(1, bytes) {
-        io::write_all(2, b"dumpmap: the output could not be written\n");
-    }
+    rt.write_all(bytes)
 }
 
 // A whole input: its first line and its text.
-pub fn dump(input: &[u8]) {
+pub fn dump(rt: &impl Print, input: &[u8]) -> io::Result<()> {
     let mut out = [0u8; ROOM];
     let n = render(input, &mut out);
-    hand_over(input, &out[..n]);
+    hand_over(rt, input, &out[..n])
 }
 
 // A longer input than is taken: the same is printed for each.
-fn dump_longer() {
+fn dump_longer(rt: &impl Print) -> io::Result<()> {
     let input = [0u8; MOST + 1];
-    dump(&input);
+    dump(rt, &input)
 }
 
-// Whether standard input has another byte.
-fn more() -> bool {
+// Whether the input has another byte.
+fn more<R: Read>(reader: &mut R) -> io::Result<bool> {
     let mut one = [0u8; 1];
-    io::read_full(0, &mut one) != 0
+    let n = input::read_full(reader, &mut one)?;
+    Ok(n != 0)
 }
 
 // Standard input, to its end.
-pub fn dump_stdin() {
+pub fn dump_stdin(rt: &(impl Input + Print)) -> io::Result<()> {
+    let mut reader = rt.reader();
     let mut input = [0u8; MOST];
-    let n = io::read_full(0, &mut input);
-    if more() {
-        dump_longer();
-        return;
+    let n = input::read_full(&mut reader, &mut input)?;
+    if more(&mut reader)? {
+        return dump_longer(rt);
     }
-    dump(&input[..n]);
+    dump(rt, &input[..n])
 }

@@ -1,6 +1,8 @@
 // The longest input that dumpmap takes: 16,384 bytes, with a token at the last.
 #![tactic(auto)]
 
-fn main() {
-    dump::dump_stdin();
+use std::io;
+
+fn main(rt: HostRuntime) -> io::Result<()> {
+    dump::dump_stdin(&rt)
 }

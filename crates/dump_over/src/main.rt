@@ -1,6 +1,8 @@
 // One byte more than dumpmap takes.
 #![tactic(auto)]
 
-fn main() {
-    dump::dump_stdin();
+use std::io;
+
+fn main(rt: HostRuntime) -> io::Result<()> {
+    dump::dump_stdin(&rt)
 }

@@ -1,6 +1,8 @@
 // dumpmap: prints the tokens of a text of mappings, from standard input.
 #![tactic(auto)]
 
-fn main() {
-    dump::dump_stdin();
+use std::io;
+
+fn main(rt: HostRuntime) -> io::Result<()> {
+    dump::dump_stdin(&rt)
 }

@@ -12,6 +12,9 @@ pub enum FirstLine {
     Bad,
 }
 
+// The most figures of a count.
+const MOST_FIGURES: usize = 10;
+
 // A count, and where what follows its stop byte begins.
 #[derive(Clone, Copy)]
 enum Number {
@@ -62,7 +65,7 @@ fn number_at(s: &[u8], at: usize, stop: u8) -> Number
         if !is_figure(b) {
             return Number::Bad;
         }
-        if figures == 10 {
+        if figures == MOST_FIGURES {
             return Number::Bad;
         }
         n = 10 * n + (wide(b) - 48);

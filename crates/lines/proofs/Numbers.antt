@@ -1,12 +1,10 @@
 -- A number or an id, and the byte after it. Assumes nothing.
-use mathlib.Core.Path.{◌≡◌, refl, sym, ◌∙◌, ap}
-use mathlib.Core.Bool.{true, false}
+use mathlib.Core.Path.{◌≡◌, refl, sym, ap}
 use mathlib.Core.List.{List, [], ◌∷◌, ◌++◌, append-nil}
 use Prim.Native.Nat.{ℕ, ◌+◌, ◌^◌, ◌≤◌, ◌<◌}
 use native.Mathlib.Omega.{arith}
-use lib.ListN.{length, set, length-append}
+use lib.ListN.{length, set}
 use borrow.Author.Tests.{eq-eqb, ne_eqb}
-use Rattle.list.specs.Pick.{pick}
 use Rattle.list.specs.Put.{Put}
 use Rattle.list.proofs.Pick.{pick_ind}
 use Rattle.list.proofs.Put.{Due, put_is, due_all, due_is, due_same, due_none, due_fits, due_put, due_byte, due_byte_fits}

@@ -1,6 +1,7 @@
 // Looks positions up in small tables and prints each answer, its code and its number, on a line.
 #![tactic(auto)]
 
+use std::io;
 use token::Token;
 
 // Stores a token at a line and a column, where the table has a place for it.
@@ -22,35 +23,35 @@ fn put(table: &mut [u32], i: usize, line: u32, col: u32) {
     }
 }
 
-fn ask(table: &[u32], line: u32, col: u32) {
+fn ask(rt: &impl Print, table: &[u32], line: u32, col: u32) -> io::Result<()> {
     let found = lookup::lookup_token(table, line, col);
-    io::print_decimal(1, lookup::found_code(found));
-    io::write_all(1, b" ");
-    io::print_decimal(1, lookup::found_number(found));
-    io::write_all(1, b"\n");
+    let code = lookup::found_code(found);
+    let number = lookup::found_number(found);
+    println!(rt; "{code} {number}")
 }
 
 // Before, at, between and past the tokens of a line; equal columns; a line with none.
-fn sorted() {
+fn sorted(rt: &impl Print) -> io::Result<()> {
     let mut t = [0u32; 35];
     put(&mut t, 0, 0, 2);
     put(&mut t, 1, 0, 5);
     put(&mut t, 2, 1, 0);
     put(&mut t, 3, 1, 0);
     put(&mut t, 4, 3, 4);
-    ask(&t, 0, 1);
-    ask(&t, 0, 2);
-    ask(&t, 0, 4);
-    ask(&t, 0, 5);
-    ask(&t, 0, 4294967295);
-    ask(&t, 1, 0);
-    ask(&t, 2, 9);
-    ask(&t, 3, 3);
-    ask(&t, 3, 4);
+    ask(rt, &t, 0, 1)?;
+    ask(rt, &t, 0, 2)?;
+    ask(rt, &t, 0, 4)?;
+    ask(rt, &t, 0, 5)?;
+    ask(rt, &t, 0, 4294967295)?;
+    ask(rt, &t, 1, 0)?;
+    ask(rt, &t, 2, 9)?;
+    ask(rt, &t, 3, 3)?;
+    ask(rt, &t, 3, 4)?;
+    Ok(())
 }
 
 // Lines and columns that fall, and equal columns apart.
-fn unsorted() {
+fn unsorted(rt: &impl Print) -> io::Result<()> {
     let mut t = [0u32; 42];
     put(&mut t, 0, 1, 7);
     put(&mut t, 1, 0, 1);
@@ -58,35 +59,38 @@ fn unsorted() {
     put(&mut t, 3, 0, 0);
     put(&mut t, 4, 1, 7);
     put(&mut t, 5, 1, 5);
-    ask(&t, 0, 0);
-    ask(&t, 0, 1);
-    ask(&t, 1, 2);
-    ask(&t, 1, 4);
-    ask(&t, 1, 6);
-    ask(&t, 1, 7);
-    ask(&t, 1, 9);
+    ask(rt, &t, 0, 0)?;
+    ask(rt, &t, 0, 1)?;
+    ask(rt, &t, 1, 2)?;
+    ask(rt, &t, 1, 4)?;
+    ask(rt, &t, 1, 6)?;
+    ask(rt, &t, 1, 7)?;
+    ask(rt, &t, 1, 9)?;
+    Ok(())
 }
 
 // The last position there is.
-fn largest() {
+fn largest(rt: &impl Print) -> io::Result<()> {
     let mut t = [0u32; 7];
     put(&mut t, 0, 4294967295, 4294967295);
-    ask(&t, 4294967295, 4294967294);
-    ask(&t, 4294967295, 4294967295);
+    ask(rt, &t, 4294967295, 4294967294)?;
+    ask(rt, &t, 4294967295, 4294967295)?;
+    Ok(())
 }
 
 // No token, and lengths that are no table's.
-fn lengths() {
+fn lengths(rt: &impl Print) -> io::Result<()> {
     let t = [0u32; 8];
-    ask(&t[0..0], 0, 0);
-    ask(&t[0..6], 0, 0);
-    ask(&t[0..7], 0, 0);
-    ask(&t, 0, 0);
+    ask(rt, &t[0..0], 0, 0)?;
+    ask(rt, &t[0..6], 0, 0)?;
+    ask(rt, &t[0..7], 0, 0)?;
+    ask(rt, &t, 0, 0)?;
+    Ok(())
 }
 
-fn main() {
-    sorted();
-    unsorted();
-    largest();
-    lengths();
+fn main(rt: HostRuntime) -> io::Result<()> {
+    sorted(&rt)?;
+    unsorted(&rt)?;
+    largest(&rt)?;
+    lengths(&rt)
 }

@@ -2,9 +2,10 @@
 #![tactic(auto)]
 
 ghost use Rattle.std.specs.Prelude.{◌≡◌, ◌<◌, ◌≤◌, length};
-ghost use Rattle.io.specs.Counts.{IsPrefixLen};
+ghost use Rattle.replay.specs.Counts.{IsPrefixLen};
 
 use code::Code;
+use std::io;
 
 // A number, and where the next one begins.
 #[derive(Clone, Copy)]
@@ -172,46 +173,46 @@ pub fn nothing() -> Tally {
 }
 
 // Prints the counts of the group that ends.
-pub fn ended(t: Tally) {
+pub fn ended(rt: &impl Print, t: Tally) -> io::Result<()> {
     if t.begun {
-        io::print_decimal(1, t.agreed);
-        io::write_all(1, b" of ");
-        io::print_decimal(1, t.records);
-        io::write_all(1, b" agree\n");
+        let agreed = t.agreed;
+        let records = t.records;
+        println!(rt; "{agreed} of {records} agree")?;
     }
+    Ok(())
 }
 
 // Prints a group's name, after the counts of the one before it.
-pub fn began(t: Tally, name: &[u8]) -> Tally {
-    ended(t);
-    io::write_all(1, name);
-    io::write_all(1, b": ");
-    Tally {
+pub fn began(rt: &impl Print, t: Tally, name: &[u8]) -> io::Result<Tally> {
+    ended(rt, t)?;
+    rt.write_all(name)?;
+    rt.write_all(b": ")?;
+    Ok(Tally {
         records: 0,
         agreed: 0,
         begun: true,
-    }
+    })
 }
 
 fn more(n: u64, by: bool) -> u64 {
     if by {
-        return std::num::wrapping_add_u64(n, 1);
+        return n.wrapping_add(1);
     }
     n
 }
 
 // Counts a record; one that disagrees is printed.
-pub fn counted(t: Tally, agrees: bool, record: &[u8]) -> Tally {
+pub fn counted(rt: &impl Print, t: Tally, agrees: bool, record: &[u8]) -> io::Result<Tally> {
     if !agrees {
-        io::write_all(1, b"\ndiffers: ");
-        io::write_all(1, record);
-        io::write_all(1, b"\n");
+        rt.write_all(b"\ndiffers: ")?;
+        rt.write_all(record)?;
+        rt.write_all(b"\n")?;
     }
-    Tally {
+    Ok(Tally {
         records: more(t.records, true),
         agreed: more(t.agreed, agrees),
         begun: t.begun,
-    }
+    })
 }
 
 // A number of a record as 64 bits.

@@ -4,9 +4,11 @@
 // then a text or more numbers. Other lines are empty. The input is read in blocks of 4,096 bytes, and no record lies across two.
 #![tactic(auto)]
 
-ghost use Rattle.std.specs.Prelude.{◌≤◌, length};
+ghost use Rattle.std.specs.Prelude.{◌≤◌, length, IfOk};
 
 use replay::Tally;
+use std::io;
+use std::io::Read;
 
 // The place after a record, and the counts with it.
 #[derive(Clone, Copy)]
@@ -38,43 +40,43 @@ fn record_agrees(head: &[u8], text: &[u8]) -> bool {
 }
 
 // What begins at a place of a block: a group's name, a record, or an empty line.
-fn turn(block: &[u8], at: usize, t: Tally) -> Passed
+fn turn(rt: &impl Print, block: &[u8], at: usize, t: Tally) -> io::Result<Passed>
     requires { at ≤ length block.now }
-    ensures { result.next ≤ length block.now }
+    ensures { IfOk result (λ p. p.next ≤ length block.now) }
 {
     let end = replay::line_end(block, at);
     let from = replay::after(block, end);
     if at == end {
-        return Passed {
+        return Ok(Passed {
             next: from,
             tally: t,
-        };
+        });
     }
     if block[at] == b'#' {
-        return Passed {
+        return Ok(Passed {
             next: from,
-            tally: replay::began(t, &block[at..end]),
-        };
+            tally: replay::began(rt, t, &block[at..end])?,
+        });
     }
     let to = replay::line_end(block, from);
     let ok = record_agrees(&block[at..end], &block[from..to]);
-    Passed {
+    Ok(Passed {
         next: replay::after(block, to),
-        tally: replay::counted(t, ok, &block[at..to]),
-    }
+        tally: replay::counted(rt, t, ok, &block[at..to])?,
+    })
 }
 
-fn in_block(block: &[u8], tally: Tally) -> Tally {
+fn in_block(rt: &impl Print, block: &[u8], tally: Tally) -> io::Result<Tally> {
     let mut t = tally;
     let mut at: usize = 0;
     let mut left = block.len();
     while left > 0 {
-        let r = turn(block, at, t);
+        let r = turn(rt, block, at, t)?;
         at = r.next;
         t = r.tally;
         left -= 1;
     }
-    t
+    Ok(t)
 }
 
 // A block's counts, and whether there was one.
@@ -84,32 +86,33 @@ struct Block {
     more: bool,
 }
 
-fn next_block(t: Tally) -> Block {
-    let mut block = io::buffer();
-    let n = io::read_full(0, &mut block);
+fn next_block<R: Read>(rt: &impl Print, reader: &mut R, t: Tally) -> io::Result<Block> {
+    let mut block = [0u8; 4096];
+    let n = input::read_full(reader, &mut block)?;
     if n == 0 {
-        return Block {
+        return Ok(Block {
             tally: t,
             more: false,
-        };
+        });
     }
-    Block {
-        tally: in_block(&block[..n], t),
+    Ok(Block {
+        tally: in_block(rt, &block[..n], t)?,
         more: true,
-    }
+    })
 }
 
 // Everything that standard input has, block by block. Nothing says that an input ends, so the blocks are counted down.
-fn main() {
+fn main(rt: HostRuntime) -> io::Result<()> {
+    let mut reader = rt.reader();
     let mut t = replay::nothing();
     let mut left: u64 = 1000000;
     while left > 0 {
-        let b = next_block(t);
+        let b = next_block(&rt, &mut reader, t)?;
         if !b.more {
-            replay::ended(t);
-            return;
+            return replay::ended(&rt, t);
         }
         t = b.tally;
         left -= 1;
     }
+    Ok(())
 }

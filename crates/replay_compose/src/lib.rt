@@ -6,7 +6,7 @@
 #![tactic(auto)]
 
 ghost use Rattle.std.specs.Prelude.{◌<◌, ◌≤◌, ◌≡◌, length};
-ghost use Rattle.io.specs.Counts.{IsPrefixLen};
+ghost use Rattle.replay.specs.Counts.{IsPrefixLen};
 
 use compose::Composed;
 
@@ -248,7 +248,7 @@ fn parts_agree(
         &numbers[6..inner],
         &text[..names],
         &outer_list[..n],
-        &numbers[inner..result],
+        &numbers[inner..res],
         &text[names..],
         &inner_list[..m],
         &numbers[res..outer_ends],

@@ -1,7 +1,6 @@
 // A recorded answer of translating or of lookup, held to what the library gives.
 #![tactic(auto)]
 
-
 fn translates(table: &mut [u32], line: u32, source: u32, name: u32, want: &[u32]) -> bool {
     let c = translate::translate(table, line, source, name);
     if !replay::answers(c, 0, 0) {

@@ -2,6 +2,7 @@
 // It does so with two tables: the first has a step to a source column that is too wide for checked mode, the second has none.
 #![tactic(auto)]
 
+use std::io;
 use token::{Token, TokenChunk};
 
 // The source column of token k.
@@ -125,12 +126,11 @@ fn same(a: &[u32; 168], b: &[u32; 168]) -> bool {
     true
 }
 
-fn print_yes(yes: bool) {
+fn print_yes(rt: &impl Print, yes: bool) -> io::Result<()> {
     if yes {
-        io::write_all(1, b" yes");
-    } else {
-        io::write_all(1, b" no");
+        return rt.write_all(b" yes");
     }
+    rt.write_all(b" no")
 }
 
 fn read_back(text: &[u8], table: &[u32; 168], checked: bool) -> bool {
@@ -144,45 +144,56 @@ fn read_back(text: &[u8], table: &[u32; 168], checked: bool) -> bool {
 }
 
 // The first n bytes, decoded in both modes.
-fn print_both(out: &[u8], n: usize, table: &[u32; 168]) {
+fn print_both(rt: &impl Print, out: &[u8], n: usize, table: &[u32; 168]) -> io::Result<()> {
     if n <= out.len() {
-        print_yes(read_back(&out[..n], table, false));
-        print_yes(read_back(&out[..n], table, true));
+        print_yes(rt, read_back(&out[..n], table, false))?;
+        print_yes(rt, read_back(&out[..n], table, true))?;
     }
+    Ok(())
 }
 
-fn print_run(size: u32, table: &[u32; 168], whole: usize, out: &mut [u8]) {
+fn print_run(
+    rt: &impl Print,
+    size: u32,
+    table: &[u32; 168],
+    whole: usize,
+    out: &mut [u8],
+) -> io::Result<()> {
     let n = write_in_chunks(table, size, out);
-    io::print_decimal(1, size as u64);
-    print_yes(n == whole);
-    print_both(out, n, table);
-    io::write_all(1, b"\n");
+    print!(rt; "{size}")?;
+    print_yes(rt, n == whole)?;
+    print_both(rt, out, n, table)?;
+    rt.write_all(b"\n")
 }
 
-fn print_sizes(table: &[u32; 168], whole: usize, out: &mut [u8]) {
+fn print_sizes(
+    rt: &impl Print,
+    table: &[u32; 168],
+    whole: usize,
+    out: &mut [u8],
+) -> io::Result<()> {
     let mut size: u32 = 0;
     while size < 24 {
         size += 1;
-        print_run(size, table, whole, out);
+        print_run(rt, size, table, whole, out)?;
     }
+    Ok(())
 }
 
-fn run_all(table: &[u32; 168], out: &mut [u8]) {
-    io::write_all(1, b"premises");
-    print_yes(premises::meets_premises(table, 5, 1000));
-    print_yes(checked_premises::meets_checked_premises(table, 5, 1000));
-    io::write_all(1, b"\nbytes ");
+fn run_all(rt: &impl Print, table: &[u32; 168], out: &mut [u8]) -> io::Result<()> {
+    rt.write_all(b"premises")?;
+    print_yes(rt, premises::meets_premises(table, 5, 1000))?;
+    print_yes(rt, checked_premises::meets_checked_premises(table, 5, 1000))?;
     let whole = write_in_chunks(table, 24, out);
-    io::print_decimal(1, whole as u64);
-    io::write_all(1, b"\n");
-    print_sizes(table, whole, out);
+    println!(rt; "\nbytes {whole}")?;
+    print_sizes(rt, table, whole, out)
 }
 
-fn main() {
+fn main(rt: HostRuntime) -> io::Result<()> {
     let mut table = [0u32; 168];
     let mut out = [0u8; 4096];
     fill(true, &mut table);
-    run_all(&table, &mut out);
+    run_all(&rt, &table, &mut out)?;
     fill(false, &mut table);
-    run_all(&table, &mut out);
+    run_all(&rt, &table, &mut out)
 }

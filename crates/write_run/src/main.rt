@@ -1,6 +1,7 @@
 // Runs the writer on the tables of docs/RULES.md's worked texts, whole, cut and refused, and prints what it wrote.
 #![tactic(auto)]
 
+use std::io;
 use token::TokenChunk;
 
 // The tokens from `start` up to `end`, after a token on `line`, and zeros else.
@@ -28,41 +29,47 @@ fn upto(p: TokenChunk, end: u32) -> TokenChunk {
     r
 }
 
-fn print_number(n: u64, after: &[u8]) {
-    io::print_decimal(1, n);
-    io::write_all(1, after);
+fn print_number(rt: &impl Print, n: u64, after: &[u8]) -> io::Result<()> {
+    rt.print(n)?;
+    rt.write_all(after)
 }
 
 // The code, its number, and the text; then the state for the next chunk.
-fn run(table: &[u32], chunk: TokenChunk, out: &mut [u8]) -> TokenChunk {
+fn run(
+    rt: &impl Print,
+    table: &[u32],
+    chunk: TokenChunk,
+    out: &mut [u8],
+) -> io::Result<TokenChunk> {
     let r = encode::serialize_mappings(table, chunk, out);
     let code = r.code;
     let n = r.bytes;
     let next = r.next;
-    print_number(code::code_of(code), b" ");
-    print_number(code::number_of(code), b" ");
-    io::write_all(1, &out[..n]);
-    io::write_all(1, b"\n");
-    next
+    print_number(rt, code::code_of(code), b" ")?;
+    print_number(rt, code::number_of(code), b" ")?;
+    rt.write_all(&out[..n])?;
+    rt.write_all(b"\n")?;
+    Ok(next)
 }
 
-fn main() {
+fn main(rt: HostRuntime) -> io::Result<()> {
     let pair: [u32; 14] = [
         0, 0, 2, 3, 0, 4294967295, 0, 1, 1, 2, 3, 4294967295, 4294967295, 5,
     ];
     let twins: [u32; 14] = [0, 0, 0, 0, 0, 4294967295, 7, 0, 0, 0, 0, 0, 4294967295, 9];
     let mut out = [0u8; 64];
-    run(&pair, zeros(0, 2), &mut out);
-    let cut = run(&pair, zeros(0, 1), &mut out);
-    run(&pair, upto(cut, 2), &mut out);
-    run(&twins, zeros(0, 2), &mut out);
-    let half = run(&twins, zeros(0, 1), &mut out);
-    run(&twins, upto(half, 2), &mut out);
+    run(&rt, &pair, zeros(0, 2), &mut out)?;
+    let cut = run(&rt, &pair, zeros(0, 1), &mut out)?;
+    run(&rt, &pair, upto(cut, 2), &mut out)?;
+    run(&rt, &twins, zeros(0, 2), &mut out)?;
+    let half = run(&rt, &twins, zeros(0, 1), &mut out)?;
+    run(&rt, &twins, upto(half, 2), &mut out)?;
     let mut five = [0u8; 5];
-    run(&pair, zeros(0, 2), &mut five);
+    run(&rt, &pair, zeros(0, 2), &mut five)?;
     let mut six = [0u8; 6];
-    run(&pair, zeros(0, 2), &mut six);
-    run(&pair, zeros(2, 1), &mut out);
-    run(&pair[..12], zeros(0, 1), &mut out);
-    run(&pair, after_line(1, 0, 2), &mut out);
+    run(&rt, &pair, zeros(0, 2), &mut six)?;
+    run(&rt, &pair, zeros(2, 1), &mut out)?;
+    run(&rt, &pair[..12], zeros(0, 1), &mut out)?;
+    run(&rt, &pair, after_line(1, 0, 2), &mut out)?;
+    Ok(())
 }

@@ -1,0 +1,7 @@
+use mathlib.Core.Path.{sym}
+use lib.Seq.{length-take-le}
+use borrow.Author.Rules.{rules}
+use Rattle.replay_compose.proofs.parts_agree.Goals as goal
+
+pub slice_bounds-both_compose-end-2 : goal.slice_bounds-both_compose-end-2
+slice_bounds-both_compose-end-2 c = sym (length-take-le _ _ (search rules))

@@ -88,7 +88,7 @@ fn built() -> Result<PathBuf, String> {
     }
     // Cargo shows this when the script ends, and again at later builds: it is true then too.
     println!(
-        "cargo:warning=the last run of `bindings/archive`, which proves and builds {ARCHIVE}, took {} s; it runs again only when crates/ or crates.txt changes, and never with {FOLDER} set",
+        "cargo:warning=the last run of `bindings/archive`, which proves and builds {ARCHIVE}, took {} s; it runs again only when a source in crates/ or crates.txt changes, and never with {FOLDER} set",
         begun.elapsed().as_secs()
     );
     Ok(archive)

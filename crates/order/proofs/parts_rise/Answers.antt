@@ -70,7 +70,7 @@ pub loop-i-smaller : goal.loop-i-smaller
 loop-i-smaller c = omega (arith, c.loop-i-test.true)
 
 pub loop-i-preserved : goal.loop-i-preserved
-loop-i-preserved c = turn _ _ _ _ _ _ _ c.loop-i.invariant c.loop-i-test.true _ _ _ _ c.key_at-p.ensures c.key_at-q.ensures c.key_at-r.ensures c.key_at-s.ensures c.if-p-a.false c.if-q-b.false c.if-r-c.false c.if-s-d.false
+loop-i-preserved c = turn _ _ _ _ _ _ _ c.loop-i.invariant c.loop-i-test.true _ _ _ _ c.key_at-p.ensures c.key_at-q.ensures c.key_at-r.ensures c.key_at-s.ensures (omega arith) (omega arith) (omega arith) (omega arith)
 
 pub returns : goal.returns
 returns c = says_yes (all_rise _ _ _ _ _ _ _ c.loop-i.invariant c.loop-i-test.false)

@@ -1,8 +1,8 @@
 //! Finds `libpeghayrick.a`, copies it to `OUT_DIR` and links it from there.
 //!
 //! - With `PEGHAYRICK_LIB_DIR`: the archive in that folder. A relative folder counts from the one in which cargo was started.
-//! - Without: `rt staticlib peghayrick` proves and builds it in the repository that this crate stands in. It runs again
-//!   only when `crates/` or `crates.txt` there changes.
+//! - Without: `bindings/archive` proves and builds it in the repository that this crate stands in. It runs again only when a
+//!   source of `crates/` or `crates.txt` there changes; what rt keeps in `crates/NAME/out` is no source.
 
 use std::path::{Path, PathBuf};
 use std::process::Command;
@@ -41,7 +41,7 @@ fn lent(folder: &Path) -> Result<PathBuf, String> {
     println!("cargo:rerun-if-changed={}", archive.display());
     if !archive.is_file() {
         return Err(format!(
-            "{FOLDER} is {}, but there is no {ARCHIVE} in {}: build it by `rt staticlib peghayrick`, or name the folder that has it",
+            "{FOLDER} is {}, but there is no {ARCHIVE} in {}: build it by `bindings/archive`, or name the folder that has it",
             folder.display(),
             full.display()
         ));
@@ -60,7 +60,7 @@ fn started_in(folder: &Path) -> Result<PathBuf, String> {
     })
 }
 
-/// The archive that rt makes in the repository around this crate.
+/// The archive that `bindings/archive` makes in the repository around this crate.
 fn built() -> Result<PathBuf, String> {
     let here = env::var_os("CARGO_MANIFEST_DIR").ok_or("run this by cargo")?;
     let root = Path::new(&here).join("../..");
@@ -68,26 +68,39 @@ fn built() -> Result<PathBuf, String> {
         if !root.join(part).exists() {
             return Err(format!("this crate does not stand in its repository: set {FOLDER} to a folder with {ARCHIVE}"));
         }
-        println!("cargo:rerun-if-changed={}", root.join(part).display());
     }
-    eprintln!(
-        "peghayrick: `rt staticlib peghayrick` proves and builds {ARCHIVE}: minutes the first time, a minute after a change"
-    );
+    println!("cargo:rerun-if-changed={}", root.join("crates.txt").display());
+    for folder in sources(&root.join("crates")).map_err(|why| format!("crates/ was not read: {why}"))? {
+        println!("cargo:rerun-if-changed={}", folder.display());
+    }
+    let script = root.join("bindings/archive");
+    eprintln!("peghayrick: `bindings/archive` proves and builds {ARCHIVE}: minutes the first time, a minute after a change");
     let begun = Instant::now();
-    let done = Command::new("rt").args(["staticlib", "peghayrick"]).current_dir(&root).status().map_err(|why| {
-        format!("rt did not start ({why}): put the Rattle kit's rt on PATH, or set {FOLDER} to a folder with {ARCHIVE}")
-    })?;
+    let done = Command::new(&script).status().map_err(|why| format!("{} did not start: {why}", script.display()))?;
     if !done.success() {
-        return Err("rt staticlib peghayrick failed: see above".into());
+        return Err(format!(
+            "bindings/archive failed: see above. It needs the Rattle kit's rt on PATH; or set {FOLDER} to a folder with {ARCHIVE}"
+        ));
     }
     let archive = root.join("target/staticlib").join(ARCHIVE);
     if !archive.is_file() {
-        return Err(format!("rt wrote no {}", archive.display()));
+        return Err(format!("bindings/archive wrote no {}", archive.display()));
     }
     // Cargo shows this when the script ends, and again at later builds: it is true then too.
     println!(
-        "cargo:warning=the last run of `rt staticlib peghayrick`, which proves and builds {ARCHIVE}, took {} s; it runs again only when crates/ or crates.txt changes, and never with {FOLDER} set",
+        "cargo:warning=the last run of `bindings/archive`, which proves and builds {ARCHIVE}, took {} s; it runs again only when a source in crates/ or crates.txt changes, and never with {FOLDER} set",
         begun.elapsed().as_secs()
     );
     Ok(archive)
+}
+
+/// The folders of sources of each crate: cargo runs this script again when a file in one of them changes.
+fn sources(crates: &Path) -> std::io::Result<Vec<PathBuf>> {
+    let mut found = Vec::new();
+    for each in fs::read_dir(crates)? {
+        let folder = each?.path();
+        found.extend(["src", "specs", "proofs"].map(|part| folder.join(part)).into_iter().filter(|part| part.is_dir()));
+    }
+    found.sort();
+    Ok(found)
 }

@@ -72,7 +72,7 @@
 //!
 //! # Building
 //! x86-64 Linux only. The build script links `libpeghayrick.a`: from the folder `PEGHAYRICK_LIB_DIR` (a relative one
-//! counts from the folder in which cargo was started), or else from `rt staticlib peghayrick`, which proves it first.
+//! counts from the folder in which cargo was started), or else from `bindings/archive`, which proves it first.
 //! Tried with Rust 1.85 and 1.95; `rust-version` claims the former.
 #![no_std]
 #![deny(missing_docs, unsafe_op_in_unsafe_fn)]

@@ -2,6 +2,7 @@
 
 use core::fmt;
 use core::iter::FusedIterator;
+use core::marker::PhantomData;
 
 /// How many numbers an entry has.
 pub(crate) const ENTRY: usize = 3;
@@ -25,15 +26,6 @@ pub enum Change {
 }
 
 impl Change {
-    /// The difference that an entry says: its kind and both indices.
-    const fn of(entry: [u32; ENTRY]) -> Self {
-        match entry {
-            [1, left, _] => Change::OnlyLeft(left),
-            [2, _, right] => Change::OnlyRight(right),
-            [_, left, right] => Change::Different { left, right },
-        }
-    }
-
     /// The kind: 1 only left, 2 only right, 3 different.
     pub const fn kind(&self) -> u32 {
         match self {
@@ -74,6 +66,25 @@ impl Change {
     }
 }
 
+/// What an entry is made: nothing but a [`Change`], and no one else can name it.
+mod sealed {
+    pub trait Entry {
+        fn of(entry: [u32; super::ENTRY]) -> Self;
+    }
+}
+use sealed::Entry;
+
+/// The difference that an entry says: its kind and both indices.
+impl Entry for Change {
+    fn of(entry: [u32; ENTRY]) -> Self {
+        match entry {
+            [1, left, _] => Change::OnlyLeft(left),
+            [2, _, right] => Change::OnlyRight(right),
+            [_, left, right] => Change::Different { left, right },
+        }
+    }
+}
+
 /// The differences of two tables, in order of position, and at one position by the place there. They are read from the memory
 /// that was lent to [`compare_tables`](crate::compare_tables). None at all mean that the first six numbers of the tokens agree
 /// throughout.
@@ -89,26 +100,35 @@ impl Change {
 /// assert!(changes.eq([Change::OnlyLeft(0), Change::OnlyLeft(1)]));
 /// # Ok::<(), Refusal>(())
 /// ```
-#[derive(Clone)]
-pub struct Changes<'a> {
+///
+/// The type of the items is a parameter, though there is only one: so what a caller does not ask of the iterator is not compiled,
+/// and `step_by`, which panics where a step is 0, is no part of this crate.
+pub struct Changes<'a, C = Change> {
     /// Whole entries, those that are left.
     entries: &'a [u32],
+    made: PhantomData<C>,
 }
 
 impl<'a> Changes<'a> {
     /// Those that stand in the first so many entries of the memory.
     pub(crate) fn new(out: &'a [u32], entries: usize) -> Self {
-        Self { entries: out.get(..entries.saturating_mul(ENTRY)).unwrap_or(out) }
+        Self { entries: out.get(..entries.saturating_mul(ENTRY)).unwrap_or(out), made: PhantomData }
     }
 }
 
-impl Iterator for Changes<'_> {
-    type Item = Change;
+impl<C> Clone for Changes<'_, C> {
+    fn clone(&self) -> Self {
+        Self { entries: self.entries, made: PhantomData }
+    }
+}
 
-    fn next(&mut self) -> Option<Change> {
+impl<C: Entry> Iterator for Changes<'_, C> {
+    type Item = C;
+
+    fn next(&mut self) -> Option<C> {
         let (entry, entries) = self.entries.split_first_chunk()?;
         self.entries = entries;
-        Some(Change::of(*entry))
+        Some(C::of(*entry))
     }
 
     fn size_hint(&self) -> (usize, Option<usize>) {
@@ -117,18 +137,18 @@ impl Iterator for Changes<'_> {
     }
 }
 
-impl DoubleEndedIterator for Changes<'_> {
-    fn next_back(&mut self) -> Option<Change> {
+impl<C: Entry> DoubleEndedIterator for Changes<'_, C> {
+    fn next_back(&mut self) -> Option<C> {
         // Not split_last_chunk: it calls split_at, which has a panic, though one that never comes.
         let (entries, entry) = self.entries.split_at_checked(self.entries.len().checked_sub(ENTRY)?)?;
         self.entries = entries;
-        entry.first_chunk().map(|entry| Change::of(*entry))
+        entry.first_chunk().map(|entry| C::of(*entry))
     }
 }
 
-impl ExactSizeIterator for Changes<'_> {}
+impl<C: Entry> ExactSizeIterator for Changes<'_, C> {}
 
-impl FusedIterator for Changes<'_> {}
+impl<C: Entry> FusedIterator for Changes<'_, C> {}
 
 /// The differences that are left, as a list.
 impl fmt::Debug for Changes<'_> {

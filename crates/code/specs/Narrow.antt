@@ -2,11 +2,10 @@
 -- The ranks of the codes, and the numbers of 32 bits. Assumes nothing.
 use Rattle.std.specs.Prelude.{ℕ}
 use Rattle.code.specs.declared.Code.{Code}
-use Rattle.code.specs.declared.Code.TheVariants.{Done, VlqLeftover, VlqOverflow, BadSegmentSize, BadSourceReference, BadNameReference, WideValue, TableFull, NoRoom, LineGoesBack, BadChunk, BadTable, TooBig, MoreThanOneSource, BadNames, OddList, Unsorted}
+use Rattle.code.specs.declared.Code.TheVariants.{VlqLeftover, VlqOverflow, BadSegmentSize, BadSourceReference, BadNameReference, WideValue, TableFull, NoRoom, LineGoesBack, BadChunk, BadTable, TooBig, MoreThanOneSource, BadNames, OddList, Unsorted}
 
--- its rank among the codes, from 0
+-- its rank among the codes, from 1
 abbrev pub rank_of : Code → ℕ
-rank_of Done = 0
 rank_of VlqLeftover = 1
 rank_of VlqOverflow = 2
 rank_of (BadSegmentSize n) = 3
@@ -26,7 +25,6 @@ rank_of (Unsorted n) = 16
 
 -- the number, where it has 32 bits
 abbrev pub narrow_of : Code → ℕ
-narrow_of Done = 0
 narrow_of VlqLeftover = 0
 narrow_of VlqOverflow = 0
 narrow_of (BadSegmentSize n) = n

@@ -1,13 +1,12 @@
-// The codes of docs/RULES.md: what an entry says of its input, and the number that goes with it.
+// The codes of docs/RULES.md: why an entry refuses its input, and the number that goes with the code. What is done has code 0.
 #![tactic(auto)]
 
 ghost use Rattle.std.specs.Prelude.{◌≡◌};
-ghost use Rattle.code.specs.Code.{code_of, number_of};
+ghost use Rattle.code.specs.Code.{code_of, number_of, refused, answer_of};
 ghost use Rattle.code.specs.Narrow.{rank_of, narrow_of};
 
 #[derive(Clone, Copy)]
 pub enum Code {
-    Done,
     VlqLeftover,
     VlqOverflow,
     BadSegmentSize(u32),
@@ -26,12 +25,11 @@ pub enum Code {
     Unsorted(u32),
 }
 
-// A code's rank among the codes, from 0.
+// A code's rank among the codes, from 1.
 fn rank_of(c: Code) -> u64
     ensures { result ≡ rank_of c }
 {
     match c {
-        Code::Done => 0,
         Code::VlqLeftover => 1,
         Code::VlqOverflow => 2,
         Code::BadSegmentSize(_) => 3,
@@ -68,7 +66,6 @@ fn narrow_number(c: Code) -> u64
     ensures { result ≡ narrow_of c }
 {
     match c {
-        Code::Done => 0,
         Code::VlqLeftover => 0,
         Code::VlqOverflow => 0,
         Code::BadSegmentSize(n) => n as u64,
@@ -95,5 +92,34 @@ pub fn number_of(c: Code) -> u64
     match c {
         Code::NoRoom(n) => n,
         _ => narrow_number(c),
+    }
+}
+
+// What goes out to another language: a code and its number, both 0 where it is done.
+#[repr(C)]
+#[derive(Clone, Copy)]
+pub struct Answer {
+    pub code: u64,
+    pub number: u64,
+}
+
+impl From<Code> for Answer {
+    ghost from_gives = { λ c a. a ≡ refused c };
+
+    fn from(c: Code) -> Answer {
+        Answer {
+            code: code_of(c),
+            number: number_of(c),
+        }
+    }
+}
+
+// The answer of an entry that gives nothing but whether it is done.
+pub fn answer_of(r: Result<(), Code>) -> Answer
+    ensures { result ≡ answer_of r }
+{
+    match r {
+        Ok(()) => Answer { code: 0, number: 0 },
+        Err(c) => Answer::from(c),
     }
 }

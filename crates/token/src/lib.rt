@@ -28,7 +28,7 @@ pub struct Token {
 
 // A part of a table, from `start` up to `end`, and the numbers that its first token is counted from.
 #[repr(C)]
-#[derive(Clone, Copy)]
+#[derive(Clone, Copy, Default)]
 pub struct TokenChunk {
     pub start: u32,
     pub end: u32,
@@ -44,9 +44,7 @@ pub struct TokenChunk {
 pub fn with_segment(t: Token, segment: u32) -> Token
     ensures { result ≡ with_segment t segment }
 {
-    let mut r = t;
-    r.segment = segment;
-    r
+    Token { segment, ..t }
 }
 
 // How many tokens a table of so many numbers has room for.

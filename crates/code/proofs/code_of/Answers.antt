@@ -8,11 +8,10 @@ use Rattle.code.specs.contracts.Code.{the_type}
 use Rattle.code.specs.Code.{code_of}
 use Rattle.code.specs.Narrow.{rank_of}
 use Rattle.code.specs.declared.Code.{Code}
-use Rattle.code.specs.declared.Code.TheVariants.{Done, VlqLeftover, VlqOverflow, BadSegmentSize, BadSourceReference, BadNameReference, WideValue, TableFull, NoRoom, LineGoesBack, BadChunk, BadTable, TooBig, MoreThanOneSource, BadNames, OddList, Unsorted}
+use Rattle.code.specs.declared.Code.TheVariants.{VlqLeftover, VlqOverflow, BadSegmentSize, BadSourceReference, BadNameReference, WideValue, TableFull, NoRoom, LineGoesBack, BadChunk, BadTable, TooBig, MoreThanOneSource, BadNames, OddList, Unsorted}
 use Rattle.code.proofs.code_of.Goals as goal
 
-rank : (x : Code) → OneOf (0 ∷ 1 ∷ 2 ∷ 3 ∷ 4 ∷ 5 ∷ 6 ∷ 7 ∷ 8 ∷ 9 ∷ 10 ∷ 11 ∷ 12 ∷ 13 ∷ 14 ∷ []) (Declared.tag_of the_type x) → rank_of x ≡ code_of x
-rank Done k = refl
+rank : (x : Code) → OneOf (0 ∷ 1 ∷ 2 ∷ 3 ∷ 4 ∷ 5 ∷ 6 ∷ 7 ∷ 8 ∷ 9 ∷ 10 ∷ 11 ∷ 12 ∷ 13 ∷ []) (Declared.tag_of the_type x) → rank_of x ≡ code_of x
 rank VlqLeftover k = refl
 rank VlqOverflow k = refl
 rank (BadSegmentSize n) k = refl
@@ -27,8 +26,8 @@ rank BadTable k = refl
 rank (TooBig n) k = refl
 rank MoreThanOneSource k = refl
 rank BadNames k = refl
-rank OddList k = absurd (miss (0 ∷ 1 ∷ 2 ∷ 3 ∷ 4 ∷ 5 ∷ 6 ∷ 7 ∷ 8 ∷ 9 ∷ 10 ∷ 11 ∷ 12 ∷ 13 ∷ 14 ∷ []) 15 tt k)
-rank (Unsorted n) k = absurd (miss (0 ∷ 1 ∷ 2 ∷ 3 ∷ 4 ∷ 5 ∷ 6 ∷ 7 ∷ 8 ∷ 9 ∷ 10 ∷ 11 ∷ 12 ∷ 13 ∷ 14 ∷ []) 16 tt k)
+rank OddList k = absurd (miss (0 ∷ 1 ∷ 2 ∷ 3 ∷ 4 ∷ 5 ∷ 6 ∷ 7 ∷ 8 ∷ 9 ∷ 10 ∷ 11 ∷ 12 ∷ 13 ∷ []) 14 tt k)
+rank (Unsorted n) k = absurd (miss (0 ∷ 1 ∷ 2 ∷ 3 ∷ 4 ∷ 5 ∷ 6 ∷ 7 ∷ 8 ∷ 9 ∷ 10 ∷ 11 ∷ 12 ∷ 13 ∷ []) 15 tt k)
 
 pub returns-in_default : goal.returns-in_default
 returns-in_default c = c.rank_of.ensures ∙ rank c.args.c (opened c.in_default.in_default-own.keys3)

@@ -4,13 +4,14 @@
 ghost use Rattle.std.specs.Prelude.{◌≡◌, Ok};
 ghost use Rattle.apply.specs.declared.About.{About};
 ghost use Rattle.apply.specs.Apply.{refusal, kept, columned, mapped, named, shown, four, five, counted, applied};
-ghost use Rattle.apply.specs.Small.{Small};
+ghost use Rattle.apply.specs.Small.{Small, broken};
 
 use code::Code;
 use segment::Segment;
 use sums::Unkept;
 use token::Token;
 use value::Mode;
+use vlq::Broken;
 
 // The six running numbers, and the place in the text. In this order the compiler makes no pair of them, and decode's loop has
 // fewer instructions.
@@ -38,6 +39,24 @@ pub enum About {
 pub struct Refusal {
     pub code: Code,
     pub about: About,
+}
+
+// A value that broke refuses its segment at the place where it did.
+impl From<Broken> for Refusal {
+    ghost from_gives = { λ b r. r ≡ broken b };
+
+    fn from(b: Broken) -> Refusal {
+        match b {
+            Broken::Leftover(place) => Refusal {
+                code: Code::VlqLeftover,
+                about: About::Place(place),
+            },
+            Broken::Overflow(place) => Refusal {
+                code: Code::VlqOverflow,
+                about: About::Place(place),
+            },
+        }
+    }
 }
 
 fn at_field(code: Code, field: u32) -> Refusal

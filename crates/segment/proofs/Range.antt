@@ -6,7 +6,7 @@ use Rattle.value.specs.declared.Mode.{Mode}
 use Rattle.value.proofs.Range.{value_range}
 use Rattle.vlq.specs.Vlq.{vlq_of, Vlq}
 use Rattle.vlq.proofs.Values.{value_bits}
-use Rattle.segment.specs.Segment.{Field, Fields, whole, leftover, overflow, before, field_then, fields_from, values, zeros, segment, segment_of, segment_at}
+use Rattle.segment.specs.Segment.{Field, Fields, whole, leftover, overflow, before, field_then, fields_from, values, zeros, gathered, segment_of, segment_at}
 use Rattle.segment.specs.declared.Segment.{Segment}
 use Rattle.vlq.specs.declared.Broken.{Broken}
 
@@ -56,7 +56,7 @@ fields_fine mode (suc skip) at (b ∷ bs) = fields_fine mode skip (at + 1) bs
 
 segment_fine : (t : Fields) → Fine t → (g : Segment) → segment_of t ≡ Ok g → (i : ℕ) → nat_abs (get_or g.nums i (pos 0)) ≤ 2 ^ 62
 segment_fine (whole fs next) p g e i =
-    let q : segment fs next ≡ g = cc in
+    let q : gathered fs next ≡ g = cc in
     rw (← q) (all_get (take 5 (values fs ++ zeros)) i (all_take 5 (values fs ++ zeros) (all_append (values fs) zeros p none)))
   where
     none : All zeros

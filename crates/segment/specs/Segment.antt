@@ -53,12 +53,12 @@ abbrev pub zeros : List ℤ
 zeros = pos 0 ∷ pos 0 ∷ pos 0 ∷ pos 0 ∷ pos 0 ∷ []
 
 -- the first five fields, 0 where there are fewer, the first of them that is too wide, and how many there are in truth
-abbrev pub segment : List Field → ℕ → Segment
-segment fs next = record { nums = take 5 (values fs ++ zeros); wide = wide_from 0 fs; count = length fs; next = next }
+abbrev pub gathered : List Field → ℕ → Segment
+gathered fs next = record { nums = take 5 (values fs ++ zeros); wide = wide_from 0 fs; count = length fs; next = next }
 
 -- a segment, or where a value of it broke
 abbrev pub segment_of : Fields → Result Segment Broken
-segment_of (whole fs next) = Ok (segment fs next)
+segment_of (whole fs next) = Ok (gathered fs next)
 segment_of (leftover at) = Err (Broken.Leftover at)
 segment_of (overflow at) = Err (Broken.Overflow at)
 

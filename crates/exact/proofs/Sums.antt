@@ -1,5 +1,6 @@
 -- What checked mode keeps is the sum itself: a segment that it takes has one, four or five values, adds each, and shows the sums. Assumes
 -- nothing.
+use Rattle.std.specs.Prelude.{Option, Some, None, Result, Ok, Err}
 use mathlib.Core.Path.{◌≡◌, refl, sym, ◌∙◌, ap}
 use mathlib.Core.Bool.{Bool, true, false}
 use mathlib.Core.List.{List, [], ◌∷◌, ◌++◌, append-nil}
@@ -16,30 +17,26 @@ use Rattle.code.specs.declared.Code.{Code}
 use Rattle.token.specs.Table.{no_id}
 use Rattle.token.specs.declared.Token.{Token}
 use Rattle.value.specs.Value.{number_of, is_wide}
-use Rattle.value.specs.declared.Judged.{Judged}
-use Rattle.value.specs.declared.Judged.TheVariants.{Is, Wide}
 use Rattle.vlq.specs.Runs.{spell}
-use Rattle.segment.specs.Segment.{Field, whole, wide_from, segment_of}
+use Rattle.segment.specs.Segment.{Field, whole, wide_from, segment_of, gathered}
 use Rattle.segment.specs.declared.Segment as read
 use Rattle.sums.specs.Sums.{reduced_of, sum_of, id_of, name_sum_of}
-use Rattle.sums.specs.declared.Kept.{Kept}
-use Rattle.sums.specs.declared.Id.{Id}
 use Rattle.apply.specs.declared.State.{State}
 use Rattle.apply.specs.declared.About.{About}
-use Rattle.apply.specs.declared.Moved.{Moved}
-use Rattle.apply.specs.declared.Applied.{Applied}
 use Rattle.apply.specs.Apply as apply
-use Rattle.apply.specs.Apply.{with_column, with_source, with_name, kept, num, columned, sourced, mapped, named, onward, counted, applied}
+use Rattle.apply.specs.Apply.{with_column, with_source, with_name, kept, num, columned, sourced, mapped, named, onward, counted, applied, refusal, Moved, Applied}
 use Rattle.exact.specs.Text.{Value, Segment, one, four, five, spell_segment, Numbers, added, shown, token_of}
 use Rattle.exact.specs.Exact as exact
 use Rattle.exact.specs.Exact.{mode}
 use Rattle.exact.proofs.Fields.{Known, fields_of, spell_all}
+use Rattle.step.specs.Step.{refused}
+use Rattle.sums.specs.declared.Unkept.{Unkept}
 
 -- ---- what is kept
-abbrev Keeps : ℤ → Kept → Type 0
-Keeps z Kept.Negative = Unit {0}
-Keeps z Kept.Wide = Unit {0}
-Keeps z (Kept.At n) = pos n ≡ z
+abbrev Keeps : ℤ → (Result ℕ Unkept) → Type 0
+Keeps z (Err Unkept.Negative) = Unit {0}
+Keeps z (Err Unkept.Wide) = Unit {0}
+Keeps z (Ok n) = pos n ≡ z
 
 sum_is : (z : ℤ) → Keeps z (sum_of mode z)
 unfolding sum_of reduced_of
@@ -51,9 +48,9 @@ unfolding name_sum_of reduced_of
 name_is (pos n) = pick_ind (Keeps (pos n)) (ltb n (2 ^ 32)) (λ _. refl) (λ _. tt)
 name_is (negsuc n) = tt
 
-abbrev Points : ℤ → Id → Type 0
-Points z Id.Outside = Unit {0}
-Points z (Id.Is n) = pos n ≡ z
+abbrev Points : ℤ → (Option ℕ) → Type 0
+Points z None = Unit {0}
+Points z (Some n) = pos n ≡ z
 
 id_is : (count : ℕ) (z : ℤ) → Points z (id_of count z)
 unfolding id_of
@@ -68,20 +65,20 @@ pub other : {A : Type 0} → ◌≡◌ {A = ℕ} 0 1 → A
 other z = absurd (omega arith)
 
 -- ---- what follows of a segment that is taken, step by step; of one that is refused, only that it is
-module _ (P : Applied → Type 0) (no : (code : Code) (about : About) → Refusal code → P (Applied.Refused code about)) where
-  kept_by : (z : ℤ) (k : Kept) → Keeps z k → (field : ℕ) (go : ℕ → Moved) (on : State → Applied) → ((n : ℕ) → pos n ≡ z → P (onward (go n) on)) → P (onward (kept k field go) on)
-  kept_by z Kept.Negative e field go on h = no _ _ (λ q. other cc)
-  kept_by z Kept.Wide e field go on h = no _ _ (λ q. other cc)
-  kept_by z (Kept.At n) e field go on h = h n e
+module _ (P : Applied → Type 0) (no : (code : Code) (about : About) → Refusal code → P (Err (refusal code about))) where
+  kept_by : (z : ℤ) (k : Result ℕ Unkept) → Keeps z k → (field : ℕ) (go : ℕ → Moved) (on : State → Applied) → ((n : ℕ) → pos n ≡ z → P (onward (go n) on)) → P (onward (kept k field go) on)
+  kept_by z (Err Unkept.Negative) e field go on h = no _ _ (λ q. other cc)
+  kept_by z (Err Unkept.Wide) e field go on h = no _ _ (λ q. other cc)
+  kept_by z (Ok n) e field go on h = h n e
 
-  source_by : (s : State) (z : ℤ) (i : Id) → Points z i → (go : ℕ → Moved) (on : State → Applied) → ((n : ℕ) → pos n ≡ z → P (onward (go n) on)) → P (onward (sourced s i go) on)
-  source_by s z Id.Outside e go on h = no _ _ (λ q. other cc)
-  source_by s z (Id.Is n) e go on h = h n e
+  source_by : (s : State) (z : ℤ) (i : Option ℕ) → Points z i → (go : ℕ → Moved) (on : State → Applied) → ((n : ℕ) → pos n ≡ z → P (onward (go n) on)) → P (onward (sourced s i go) on)
+  source_by s z None e go on h = no _ _ (λ q. other cc)
+  source_by s z (Some n) e go on h = h n e
 
   columned_by : (s : State) (g : read.Segment) (on : State → Applied)
       → ((n : ℕ) → pos n ≡ pos s.dst_col +ℤ num 0 g → P (on (with_column s n g.next))) → P (onward (columned mode s g) on)
   unfolding columned
-  columned_by s g on h = kept_by _ (sum_of mode (pos s.dst_col +ℤ num 0 g)) (sum_is _) 0 (λ n. Moved.To (with_column s n g.next)) on h
+  columned_by s g on h = kept_by _ (sum_of mode (pos s.dst_col +ℤ num 0 g)) (sum_is _) 0 (λ n. Ok (with_column s n g.next)) on h
 
   mapped_by : (sources : ℕ) (s : State) (g : read.Segment) (on : State → Applied)
       → ((i l c : ℕ) → pos i ≡ pos s.source_id +ℤ num 1 g → pos l ≡ pos s.src_line +ℤ num 2 g → pos c ≡ pos s.src_col +ℤ num 3 g → P (on (with_source s i l c)))
@@ -100,9 +97,9 @@ module _ (P : Applied → Type 0) (no : (code : Code) (about : About) → Refusa
       pick_ind (λ (m : Moved). P (onward m on)) (ltb n names) (λ _. h n e) (λ _. no _ _ (λ q. other cc))
 
 -- ---- a field that is not too wide is a value
-is_number : (j : Judged) → is_wide j ≡ false → j ≡ Is (number_of j)
-is_number (Is z) e = refl
-is_number Wide e = absurd (omega (arith, no e))
+is_number : (j : Option ℤ) → is_wide j ≡ false → j ≡ Some (number_of j)
+is_number (Some z) e = refl
+is_number None e = absurd (omega (arith, no e))
   where
     no : true ≡ false → ◌≡◌ {A = ℕ} 0 1
     no z = cc
@@ -142,16 +139,16 @@ pub record Taken (ks : List Known) (s : State) (t : Token) (s' : State) : Type 0
   pub shown : (w : Numbers) → Tracks s w → s.at < 2 ^ 32 → token_of (added w segment) segment ≡ exact.whole t ∷ []
 
 abbrev pub Takes : List Known → State → Applied → Type 0
-Takes ks s (Applied.Took t s') = Taken ks s t s'
-Takes ks s (Applied.Refused code about) = Refusal code
+Takes ks s (Ok (t, s')) = Taken ks s t s'
+Takes ks s (Err r) = Refusal r.code
 
 -- ---- by the number of fields
 module _ (sources names : ℕ) (s : State) (next : ℕ) (forth : s.at ≤ next) where
-  no : (ks : List Known) (code : Code) (about : About) → Refusal code → Takes ks s (Applied.Refused code about)
+  no : (ks : List Known) (code : Code) (about : About) → Refusal code → Takes ks s (Err (refusal code about))
   no ks code about h = h
 
   abbrev segment : List Known → read.Segment
-  segment ks = segment_of (whole (fields_of ks) next)
+  segment ks = gathered (fields_of ks) next
 
   -- past the test for a value that is too wide
   abbrev steps : List Known → Applied

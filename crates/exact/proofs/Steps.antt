@@ -12,7 +12,7 @@ use Rattle.list.specs.Pick.{pick}
 use Rattle.digits.specs.Digits.{is_delim}
 use Rattle.token.specs.Table.{with_segment}
 use Rattle.token.specs.declared.Token.{Token}
-use Rattle.segment.specs.Segment.{Field, Fields, leftover, overflow, starts, segment_of, fields_from, gathered}
+use Rattle.segment.specs.Segment.{Field, Fields, leftover, overflow, starts, fields_from, gathered}
 use Rattle.segment.specs.Segment as segment
 use Rattle.segment.proofs.Border.{Border, Ends, ends}
 use Rattle.apply.specs.declared.State.{State}
@@ -22,7 +22,7 @@ use Rattle.step.specs.Step.{commaed, lined, stepped, segment_step, step_from, re
 use Rattle.exact.specs.Text.{Segment, nothing, Delimiter, comma, semicolon, character, Part, spell_segment, spell_parts, Numbers, added, delimited, token_of, parts_tokens}
 use Rattle.exact.specs.Exact.{mode, as_read, wholes}
 use Rattle.exact.proofs.Fields.{Parted, parted}
-use Rattle.exact.proofs.Sums.{Refusal, other, Tracks, Takes, takes}
+use Rattle.exact.proofs.Sums.{other, Tracks, Takes, takes}
 
 -- the bytes at the state's place, which begin with a delimiter or are none, and the tokens to come
 pub record Behind (s : State) (bs : List ℕ) (ts : List Token) : Type 0 where
@@ -83,7 +83,7 @@ module _ (sources names : ℕ) where
   abbrev pub Goes : State → List ℕ → Step → Type 0
   Goes s bs (Ok (Some (t, begin, s'))) =
       (s.at ≤ s'.at) × (Border (drop (s'.at - s.at) bs) × ((ts : List Token) → begin < 2 ^ 32 → Behind s' (drop (s'.at - s.at) bs) ts → Both s bs (with_segment t begin ∷ ts)))
-  Goes s bs (Err r) = Refusal r.code
+  Goes s bs (Err r) = Unit {0}
   Goes s bs (Ok None) = Both s bs []
 
   later : (s : State) (d : Delimiter) (b : ℕ) (bs : List ℕ) (r : Step) → (after s d).at ≡ s.at + 1 → b ≡ character d → Goes (after s d) bs r → Goes s (b ∷ bs) r
@@ -96,11 +96,11 @@ module _ (sources names : ℕ) where
   segment_goes : (s : State) (b : ℕ) (bs : List ℕ) → is_delim b ≡ false → (f : Fields) → fields_from mode 0 s.at (b ∷ bs) ≡ f → Parted 0 s.at (b ∷ bs) f
       → Goes s (b ∷ bs) (segment_step mode sources names s f)
   unfolding segment_step wholes
-  segment_goes s b bs d (leftover place) e p = λ q. other cc
-  segment_goes s b bs d (overflow place) e p = λ q. other cc
+  segment_goes s b bs d (leftover place) e p = tt
+  segment_goes s b bs d (overflow place) e p = tt
   segment_goes s b bs d (segment.whole fs next) e p =
       by (applied mode sources names s (gathered fs next)) (lands mode sources names (gathered fs next) s)
-      (subst (λ (x : List Field). Takes p.known s (applied mode sources names s (segment_of (segment.whole x next)))) (sym p.fields) (takes sources names s next border.0 p.known))
+      (subst (λ (x : List Field). Takes p.known s (applied mode sources names s (gathered x next))) (sym p.fields) (takes sources names s next border.0 p.known))
     where
       border : Ends s.at (b ∷ bs) (segment.whole fs next)
       border = subst (Ends s.at (b ∷ bs)) e (ends mode 0 s.at (b ∷ bs))

@@ -41,6 +41,15 @@ encoded table c room =
     (pick (ltb room (length (bytes_in table c))) (Err (Code.NoRoom (length (bytes_in table c))))
     (Ok (record { bytes = length (bytes_in table c); next = next_chunk c.end (end_of c (tokens_in table c)) })))))
 
+-- of an answer, the bytes that it counts and the state that it leaves: a refusal counts none, and leaves the chunk that it was given
+abbrev pub bytes_out : Result Encoded Code → ℕ
+bytes_out (Ok e) = e.bytes
+bytes_out (Err code) = 0
+
+abbrev pub next_out : TokenChunk → Result Encoded Code → TokenChunk
+next_out c (Ok e) = e.next
+next_out c (Err code) = c
+
 -- a writer's answer, and what the lent bytes hold then: what is written, if it is done, and past that what they held before
 pub record Encodes (table : List ℕ) (c : TokenChunk) (out : List ℕ) (r : Result Encoded Code) (out' : List ℕ) : Type 0 where
   pub says : r ≡ encoded table c (length out)

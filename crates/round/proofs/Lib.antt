@@ -1,9 +1,8 @@
-use Rattle.std.specs.Prelude.{Option, ℤ}
 pub mod Chunks
 pub mod Demand3
 pub mod Facts
 pub mod Fields
-pub mod (Option ℤ)
+pub mod Judged
 pub mod Lead
 pub mod Round
 pub mod Same

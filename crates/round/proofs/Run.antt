@@ -172,7 +172,7 @@ module _ (mode : Mode) (sources names : ℕ) where
   pub run_back : (ts : List Token) (text : List ℕ) (room i at : ℕ) (p : TokenChunk) → Held p → fits32 (flat ts) ≡ true
       → Meets sources names p ts → takes_from mode p ts ≡ true → length ts ≤ room
       → drop at text ≡ written i p ts → Early text → Passed mode sources names text (state_of p at)
-      → run mode sources names text i room (state_of p at) ≡ record { tokens = placed i at p ts; code = Code.Done; offset = length text }
+      → run mode sources names text i room (state_of p at) ≡ record { tokens = placed i at p ts; end = Ok tt; offset = length text }
   unfolding placed written step_from
   run_back [] text room i at p h f w k l e early u = run_done mode sources names text i room (state_of p at) (ap (step_from mode sources names (state_of p at)) e)
   run_back (t ∷ ts) text zero i at p h f w k l e early u = absurd (not-suc-le-zero l)

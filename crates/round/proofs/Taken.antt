@@ -181,4 +181,4 @@ pub stops : (sources names : ℕ) (s : State) (vs : List ℕ) (at next : ℕ) �
     → applied Mode.Checked sources names s (gathered (fields_at Mode.Checked at vs) next)
     ≡ Err (refusal (Code.WideValue (first_off vs)) (About.Field (first_off vs)))
 unfolding applied
-stops sources names s vs at next k l = let o = is_off vs at k l in rw (o.is, lt-ltb (first_off vs) 5 o.less)
+stops sources names s vs at next k l = rw (is_off vs at k l)

@@ -1,16 +1,42 @@
 -- The tests of a call, in order. Assumes nothing.
-use mathlib.Core.Path.{◌≡◌}
+use mathlib.Core.Path.{◌≡◌, refl}
 use mathlib.Core.Bool.{true, false}
 use mathlib.Core.List.{List}
 use Prim.Native.Nat.{ℕ, ◌%◌, ◌≤◌, ◌<◌}
 use lib.Dec.{ltb}
+use native.Mathlib.Omega.{arith}
 use lib.ListN.{length}
 use borrow.Author.Tests.{eq-eqb, ne_eqb, lt-ltb, le-ltb, ltb-false}
 use Rattle.list.proofs.Pick.{pick_ind}
 use Rattle.std.specs.Prelude.{Result, Ok, Err, ⊤}
+use Rattle.code.specs.Code.{code_of, answer_of}
 use Rattle.code.specs.declared.Code.{Code}
 use Rattle.token.specs.Table.{bad_table}
 use Rattle.lookup_many.specs.Many.{pairs, odd_list, many_to}
+
+-- no code is 0
+not_zero : (c : Code) → code_of c ≡ 0 → ⊥
+not_zero Code.VlqLeftover e = absurd (omega arith)
+not_zero Code.VlqOverflow e = absurd (omega arith)
+not_zero (Code.BadSegmentSize n) e = absurd (omega arith)
+not_zero (Code.BadSourceReference n) e = absurd (omega arith)
+not_zero (Code.BadNameReference n) e = absurd (omega arith)
+not_zero (Code.WideValue n) e = absurd (omega arith)
+not_zero Code.TableFull e = absurd (omega arith)
+not_zero (Code.NoRoom n) e = absurd (omega arith)
+not_zero (Code.LineGoesBack n) e = absurd (omega arith)
+not_zero Code.BadChunk e = absurd (omega arith)
+not_zero Code.BadTable e = absurd (omega arith)
+not_zero (Code.TooBig n) e = absurd (omega arith)
+not_zero Code.MoreThanOneSource e = absurd (omega arith)
+not_zero Code.BadNames e = absurd (omega arith)
+not_zero Code.OddList e = absurd (omega arith)
+not_zero (Code.Unsorted n) e = absurd (omega arith)
+
+-- an answer of code 0 is done
+pub done_is : (r : Result ⊤ Code) → (answer_of r).code ≡ 0 → r ≡ Ok tt
+done_is (Ok t) e = refl
+done_is (Err c) e = absurd (not_zero c e)
 
 module _ (table positions : List ℕ) (room : ℕ) where
   pub bad : bad_table (length table) ≡ true → Err Code.BadTable ≡ many_to table positions room

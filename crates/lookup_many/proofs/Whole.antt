@@ -11,6 +11,7 @@ use lib.ListN.{length, drop, get_or}
 use lib.Seq.{ext_get_or, get_or-drop}
 use borrow.Author.Tests.{ltb-true, ltb-false}
 use Rattle.std.specs.Prelude.{Option, Some, None, Result, Ok, Err, ⊤}
+use Rattle.code.specs.Code.{answer_of}
 use Rattle.code.specs.declared.Code.{Code}
 use Rattle.token.specs.Table.{places, bad_table}
 use Rattle.token.proofs.Whole.{few}
@@ -18,7 +19,7 @@ use Rattle.lookup.specs.Lookup.{Best, Looks, lookup_of, found_out}
 use Rattle.lookup.proofs.Best as best
 use Rattle.lookup_many.specs.Many.{pairs, line_of, col_of, many_to, Says, filled, LooksMany, Told}
 use Rattle.lookup_many.specs.Blocks.{Held}
-use Rattle.lookup_many.proofs.Tests.{opens}
+use Rattle.lookup_many.proofs.Tests.{done_is, opens}
 
 module _ (table positions found : List ℕ) where
   pub refused : (c : Code) → Err c ≡ many_to table positions (length found) → LooksMany table positions found (Err c) found
@@ -80,12 +81,15 @@ module _ (table positions found : List ℕ) where
     one_answer = (same_code, ext_get_or 0 x y (a.sized ∙ sym b.sized) (λ k h. place k))
 
   -- where it is done, a lookup of a pair is done too, and its place holds the number
-  module _ (x : List ℕ) (a : LooksMany table positions found (Ok tt) x) (k : ℕ) (h : k < pairs (length positions)) where
+  module _ (r : Result ⊤ Code) (x : List ℕ) (a : LooksMany table positions found r x) (done : (answer_of r).code ≡ 0) (k : ℕ) (h : k < pairs (length positions)) where
+    it : LooksMany table positions found (Ok tt) x
+    it = subst (λ (s : Result ⊤ Code). LooksMany table positions found s x) (done_is r done) a
+
     abbrev Finds : Result (Option ℕ) Code → Type 0
     Finds f = Looks table (line_of positions k) (col_of positions k) f
 
     good : bad_table (length table) ≡ false
-    good = (ready table positions found a.says).0
+    good = (ready table positions found it.says).0
 
     finds : (f : Result (Option ℕ) Code) → Finds f → (found_out f).code ≡ 0
     finds (Ok (Some i)) l = refl
@@ -95,7 +99,7 @@ module _ (table positions found : List ℕ) where
     pub one_by_one : (f : Result (Option ℕ) Code) → Finds f → ((found_out f).code ≡ 0) × ((found_out f).number ≡ get_or x k 0)
     one_by_one f l = (
       finds f l,
-      one_says table (line_of positions k) (col_of positions k) (found_out f).number (get_or x k 0) (record { found = f; looks = l; says = refl }) (a.each k h),
+      one_says table (line_of positions k) (col_of positions k) (found_out f).number (get_or x k 0) (record { found = f; looks = l; says = refl }) (it.each k h),
     )
 
     told_by : (n : ℕ) (f : Result (Option ℕ) Code) → Finds f → n ≡ (found_out f).number → Told table (line_of positions k) (col_of positions k) n
@@ -108,4 +112,4 @@ module _ (table positions found : List ℕ) where
     told_by n (Err c) l e = absurd (let q = sym l.0 ∙ good in cc)
 
     pub told : Told table (line_of positions k) (col_of positions k) (get_or x k 0)
-    told = let s = a.each k h in told_by (get_or x k 0) s.found s.looks s.says
+    told = let s = it.each k h in told_by (get_or x k 0) s.found s.looks s.says

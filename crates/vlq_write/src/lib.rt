@@ -126,6 +126,7 @@ fn near_char(x: u64) -> u8
 
 // Writes the step from `b` to `a`. Most take one digit, which a table gives for the difference: neither size nor sign is
 // made for them.
+#[inline]
 pub fn put_step(out: &mut [u8], at: usize, a: u32, b: u32) -> usize
     requires { at + length (write_of (vlq_value a b)) ≤ length out.old }
     ensures { Put out.old at (write_of (vlq_value a b)) result out.new }

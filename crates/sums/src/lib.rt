@@ -15,25 +15,16 @@ pub enum Unkept {
     Wide,
 }
 
-// The bits of a signed number: what value::to_signed reads as that number.
-fn bits_of(v: i64) -> u64
-    ensures { as_signed result ≡ v }
-{
-    if v < 0 {
-        let below = -1 - v;
-        return 18446744073709551615 - below as u64;
-    }
-    v as u64
-}
-
+// The 64 bits of the sum: what value::to_signed reads as it.
 fn sum_of(base: u32, v: i64) -> u64
     requires { unsigned_abs v ≤ 2 ^ 62 }
     ensures { as_signed result ≡ pos base +ℤ v }
 {
-    std::num::wrapping_add_u64(base as u64, bits_of(v))
+    (base as u64).wrapping_add(v.cast_unsigned())
 }
 
 // The largest sum that a mode keeps. A negative one, as its bits, is larger in both.
+#[tactic(auto, unfolding(crate::specs::Sums::widest_of))]
 fn widest(mode: Mode) -> u64
     ensures { result ≡ widest_of mode }
 {

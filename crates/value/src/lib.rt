@@ -16,11 +16,7 @@ pub enum Mode {
 pub fn to_signed(n: u64) -> i64
     ensures { result ≡ as_signed n }
 {
-    if n < 0x8000_0000_0000_0000 {
-        n as i64
-    } else {
-        (n - 0x8000_0000_0000_0000) as i64 + (-9223372036854775808)
-    }
+    n.cast_signed()
 }
 
 // Half of `cur`, rounded down, and negated where its lowest bit is set.

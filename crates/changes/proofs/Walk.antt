@@ -7,6 +7,7 @@ use Prim.Native.Nat.{ℕ, ◌+◌, ◌≤◌, ◌<◌}
 use native.Mathlib.Omega.{arith}
 use native.Mathlib.Nat.{sub-zero}
 use lib.ListN.{length}
+use Rattle.std.specs.Prelude.{Option, Some, None}
 use Rattle.list.specs.Pick.{pick}
 use Rattle.token.specs.Table.{places, token_at, tokens_of}
 use Rattle.order.specs.Order.{sorted}
@@ -14,7 +15,7 @@ use Rattle.order.specs.Keys.{key_of, key_at}
 use Rattle.order.proofs.Before.{UpTo, up_to}
 use Rattle.order.proofs.Falls.{sorted_never}
 use Rattle.changes.specs.Changes.{Position, positions_of, Entry, only_left, only_right, different, agree, held, each, changes}
-use Rattle.changes.specs.Turns.{there_on, changes_on, entry_of, turn_of, Ahead, Turns}
+use Rattle.changes.specs.Turns.{there_on, changes_on, given, turn_of, Ahead, Turns}
 use Rattle.changes.specs.Once.{In}
 use Rattle.changes.specs.declared.Kind.{Kind}
 use Rattle.changes.specs.declared.Turn.{Turn}
@@ -193,7 +194,7 @@ pub answers : (left right : List ℕ) (i j : ℕ) (r t : Turn) → r ≡ t → T
 answers left right i j r t e u = rw e u
 
 module _ (left right : List ℕ) (i j : ℕ) (a : Ahead left right i j) where
-  pub right_ended : places (length right) ≤ j → Turns left right i j (turn_of Kind.OnlyLeft (i + 1) j)
+  pub right_ended : places (length right) ≤ j → Turns left right i j (turn_of (Some Kind.OnlyLeft) (i + 1) j)
   right_ended h =
       let g : i < places (length left) = omega (arith, a.in_right, a.more) in
       record {
@@ -203,7 +204,7 @@ module _ (left right : List ℕ) (i j : ℕ) (a : Ahead left right i j) where
         gives = left_alone left right i j a.left_sorted g (λ k l m. absurd (omega arith));
       }
 
-  pub left_ended : places (length left) ≤ i → Turns left right i j (turn_of Kind.OnlyRight i (j + 1))
+  pub left_ended : places (length left) ≤ i → Turns left right i j (turn_of (Some Kind.OnlyRight) i (j + 1))
   left_ended h =
       let g : j < places (length right) = omega (arith, a.in_left, a.more) in
       record {
@@ -215,7 +216,7 @@ module _ (left right : List ℕ) (i j : ℕ) (a : Ahead left right i j) where
 
   module _ (g : i < places (length left)) (h : j < places (length right)) (nl : (position_at left i).col < 4294967296) (nr : (position_at right j).col < 4294967296)
       (p q : ℕ) (ep : p ≡ key_at left i) (eq : q ≡ key_at right j) where
-    pub left_first : p < q → Turns left right i j (turn_of Kind.OnlyLeft (i + 1) j)
+    pub left_first : p < q → Turns left right i j (turn_of (Some Kind.OnlyLeft) (i + 1) j)
     left_first l =
         record {
           in_left = omega arith;
@@ -226,7 +227,7 @@ module _ (left right : List ℕ) (i j : ℕ) (a : Ahead left right i j) where
               (all_behind right a.right_sorted j h (position_at left i) (key_before (position_at left i) (position_at right j) nl nr (omega (arith, ep, eq))));
         }
 
-    pub right_first : q < p → Turns left right i j (turn_of Kind.OnlyRight i (j + 1))
+    pub right_first : q < p → Turns left right i j (turn_of (Some Kind.OnlyRight) i (j + 1))
     right_first l =
         record {
           in_left = a.in_left;
@@ -243,7 +244,7 @@ module _ (left right : List ℕ) (i j : ℕ) (a : Ahead left right i j) where
           both_here left right i j a.right_sorted h a.left_sorted g (key_one (position_at left i) (position_at right j) nl nr (omega (arith, ep, eq)))
           ∙ ap (λ (z : Bool). pick z [] (different i j ∷ []) ++ changes_on left right (i + 1) (j + 1)) (sym eb)
 
-      on_both : (k : Kind) → pick b [] (different i j ∷ []) ≡ entry_of k i j → Turns left right i j (turn_of k (i + 1) (j + 1))
+      on_both : (k : Option Kind) → pick b [] (different i j ∷ []) ≡ given k i j → Turns left right i j (turn_of k (i + 1) (j + 1))
       on_both k e =
           record {
             in_left = omega arith;
@@ -252,11 +253,11 @@ module _ (left right : List ℕ) (i j : ℕ) (a : Ahead left right i j) where
             gives = pair ∙ ap (λ (l : List Entry). l ++ changes_on left right (i + 1) (j + 1)) e;
           }
 
-      pub same_here : b ≡ true → Turns left right i j (turn_of Kind.Same (i + 1) (j + 1))
-      same_here e = on_both Kind.Same (rw e)
+      pub same_here : b ≡ true → Turns left right i j (turn_of None (i + 1) (j + 1))
+      same_here e = on_both None (rw e)
 
-      pub other_here : b ≡ false → Turns left right i j (turn_of Kind.Different (i + 1) (j + 1))
-      other_here e = on_both Kind.Different (rw e)
+      pub other_here : b ≡ false → Turns left right i j (turn_of (Some Kind.Different) (i + 1) (j + 1))
+      other_here e = on_both (Some Kind.Different) (rw e)
 
 -- ---- at both ends nothing is left
 pub all_done : (left right : List ℕ) (i j : ℕ) → i ≤ places (length left) → j ≤ places (length right) → places (length left) + places (length right) ≤ i + j

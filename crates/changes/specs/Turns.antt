@@ -1,6 +1,6 @@
 -- Helpers: what inner contracts and proofs need; no contract of an entry and no theorem reaches this file.
 -- Both tables walked side by side: what is left from a token of each on, and what a turn does. Assumes nothing.
-use Rattle.std.specs.Prelude.{◌≡◌, true, List, [], ◌∷◌, ◌++◌, ℕ, ◌+◌, ◌-◌, ◌≤◌, ◌<◌, length}
+use Rattle.std.specs.Prelude.{◌≡◌, true, List, [], ◌∷◌, ◌++◌, ℕ, ◌+◌, ◌-◌, ◌≤◌, ◌<◌, length, Option, Some, None}
 use Rattle.token.specs.Table.{places, tokens_of}
 use Rattle.order.specs.Order.{sorted}
 use Rattle.changes.specs.Changes.{Position, positions_of, there_from, Entry, only_left, only_right, different, held, each}
@@ -17,14 +17,18 @@ changes_on left right i j =
     each (λ (p : Position). held left right (there_on left i p) (there_on right j p)) (positions_of (tokens_of left ++ tokens_of right))
 
 -- the entry of a kind
-abbrev pub entry_of : Kind → ℕ → ℕ → List Entry
-entry_of Kind.Same i j = []
-entry_of Kind.OnlyLeft i j = only_left i ∷ []
-entry_of Kind.OnlyRight i j = only_right j ∷ []
-entry_of Kind.Different i j = different i j ∷ []
+abbrev pub entry_of : Kind → ℕ → ℕ → Entry
+entry_of Kind.OnlyLeft i j = only_left i
+entry_of Kind.OnlyRight i j = only_right j
+entry_of Kind.Different i j = different i j
+
+-- what a turn gives: no entry, or one
+abbrev pub given : Option Kind → ℕ → ℕ → List Entry
+given None i j = []
+given (Some kind) i j = entry_of kind i j ∷ []
 
 -- the kind, and where both tables go on
-abbrev pub turn_of : Kind → ℕ → ℕ → Turn
+abbrev pub turn_of : Option Kind → ℕ → ℕ → Turn
 turn_of kind i j = record { kind = kind; i = i; j = j }
 
 -- within both tables, and not at both ends
@@ -40,4 +44,4 @@ pub record Turns (left right : List ℕ) (i j : ℕ) (t : Turn) : Type 0 where
   pub in_left : t.i ≤ places (length left)
   pub in_right : t.j ≤ places (length right)
   pub on : i + j < t.i + t.j
-  pub gives : changes_on left right i j ≡ entry_of t.kind i j ++ changes_on left right t.i t.j
+  pub gives : changes_on left right i j ≡ given t.kind i j ++ changes_on left right t.i t.j

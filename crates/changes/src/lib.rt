@@ -1,26 +1,25 @@
 // Two sorted tables walked side by side: one turn, and the entry that it gives.
 #![tactic(auto)]
 
-ghost use Rattle.std.specs.Prelude.{◌≡◌, [], ◌∷◌, ◌+◌, ◌≤◌, length};
+ghost use Rattle.std.specs.Prelude.{◌≡◌, [], ◌∷◌, ◌+◌, ◌≤◌, length, Option};
 ghost use Rattle.list.specs.Put.{Put};
-ghost use Rattle.changes.specs.Changes.{agree, listed};
+ghost use Rattle.changes.specs.Changes.{agree, three_of};
 ghost use Rattle.changes.specs.Turns.{entry_of, turn_of, Ahead, Turns};
 
 use token::{NONE, Token};
 
-// What the next tokens of both tables give: no entry, or one.
+// What differs: a token that one table has alone, or one of each.
 #[derive(Clone, Copy)]
 pub enum Kind {
-    Same,
     OnlyLeft,
     OnlyRight,
     Different,
 }
 
-// The kind of the entry, and where both tables go on.
+// The kind of the entry that the next tokens of both tables give, if they give one, and where both tables go on.
 #[derive(Clone, Copy)]
 pub struct Turn {
-    pub kind: Kind,
+    pub kind: Option<Kind>,
     pub i: usize,
     pub j: usize,
 }
@@ -29,25 +28,15 @@ pub struct Turn {
 fn same_six(t: Token, u: Token) -> bool
     ensures { result ≡ agree t u }
 {
-    if t.dst_line != u.dst_line {
-        return false;
-    }
-    if t.dst_col != u.dst_col {
-        return false;
-    }
-    if t.src_line != u.src_line {
-        return false;
-    }
-    if t.src_col != u.src_col {
-        return false;
-    }
-    if t.source_id != u.source_id {
-        return false;
-    }
-    t.name_id == u.name_id
+    t.dst_line == u.dst_line
+        && t.dst_col == u.dst_col
+        && t.src_line == u.src_line
+        && t.src_col == u.src_col
+        && t.source_id == u.source_id
+        && t.name_id == u.name_id
 }
 
-fn turned(kind: Kind, i: usize, j: usize) -> Turn
+fn turned(kind: Option<Kind>, i: usize, j: usize) -> Turn
     ensures { result ≡ turn_of kind i j }
 {
     Turn { kind, i, j }
@@ -59,37 +48,25 @@ pub fn next_turn(left: &[u32], right: &[u32], i: usize, j: usize) -> Turn
     ensures { Turns left.now right.now i j result }
 {
     if token::places_in(right.len()) <= j {
-        return turned(Kind::OnlyLeft, i + 1, j);
+        return turned(Some(Kind::OnlyLeft), i + 1, j);
     }
     if token::places_in(left.len()) <= i {
-        return turned(Kind::OnlyRight, i, j + 1);
+        return turned(Some(Kind::OnlyRight), i, j + 1);
     }
     let t = token::token_at(left, i);
     let u = token::token_at(right, j);
     let p = order::key_of(t.dst_line, t.dst_col);
     let q = order::key_of(u.dst_line, u.dst_col);
     if p < q {
-        return turned(Kind::OnlyLeft, i + 1, j);
+        return turned(Some(Kind::OnlyLeft), i + 1, j);
     }
     if q < p {
-        return turned(Kind::OnlyRight, i, j + 1);
+        return turned(Some(Kind::OnlyRight), i, j + 1);
     }
     if same_six(t, u) {
-        return turned(Kind::Same, i + 1, j + 1);
+        return turned(None, i + 1, j + 1);
     }
-    turned(Kind::Different, i + 1, j + 1)
-}
-
-// How many entries a turn gives.
-pub fn entries_of(kind: Kind) -> usize
-    ensures { result ≡ length (entry_of kind 0 0) }
-{
-    match kind {
-        Kind::Same => 0,
-        Kind::OnlyLeft => 1,
-        Kind::OnlyRight => 1,
-        Kind::Different => 1,
-    }
+    turned(Some(Kind::Different), i + 1, j + 1)
 }
 
 // The three numbers of an entry; answers the place behind them.
@@ -103,13 +80,12 @@ fn put_three(out: &mut [u32], at: usize, kind: u32, left: u32, right: u32) -> us
     at + 3
 }
 
-// The entry of a turn, if it gives one.
+// The entry of a kind, of these two tokens; answers the place behind it.
 pub fn put_entry(out: &mut [u32], at: usize, kind: Kind, i: u32, j: u32) -> usize
-    requires { at + length (listed (entry_of kind i j)) ≤ length out.old }
-    ensures { Put out.old at (listed (entry_of kind i j)) result out.new }
+    requires { at + 3 ≤ length out.old }
+    ensures { Put out.old at (three_of (entry_of kind i j)) result out.new }
 {
     match kind {
-        Kind::Same => at,
         Kind::OnlyLeft => put_three(out, at, 1, i, NONE),
         Kind::OnlyRight => put_three(out, at, 2, NONE, j),
         Kind::Different => put_three(out, at, 3, i, j),

@@ -1,17 +1,19 @@
 -- The two walks: one counts the entries, the other puts their numbers. Assumes nothing.
 use mathlib.Core.Path.{◌≡◌, refl, sym, ◌∙◌, ap}
-use mathlib.Core.List.{List, [], ◌∷◌, ◌++◌, append_assoc}
+use mathlib.Core.List.{List, [], ◌∷◌, ◌++◌, append_assoc, append-nil}
 use Prim.Native.Nat.{ℕ, ◌+◌, ◌*◌, ◌≤◌, ◌<◌}
 use native.Mathlib.Omega.{arith}
 use native.Mathlib.Nat.{zero-add}
 use lib.ListN.{length, length-append}
+use Rattle.std.specs.Prelude.{Option, Some, None, is_some}
+use Rattle.std.specs.Int.{from_bool}
 use Rattle.list.specs.Memory.{onto}
 use Rattle.list.specs.Put.{Put}
-use Rattle.list.proofs.Put.{Due, due_all, due_is, due_same, due_fits, due_put, due_none, put_onto}
+use Rattle.list.proofs.Put.{Due, due_all, due_is, due_same, due_fits, due_put, due_none, put_is, put_onto}
 use Rattle.token.specs.Table.{places}
 use Rattle.token.proofs.Whole.{few}
 use Rattle.changes.specs.Changes.{Entry, only_left, only_right, different, three_of, changes, listed}
-use Rattle.changes.specs.Turns.{changes_on, entry_of, Ahead, Turns}
+use Rattle.changes.specs.Turns.{changes_on, given, entry_of, Ahead, Turns}
 use Rattle.changes.specs.declared.Kind.{Kind}
 use Rattle.changes.specs.declared.Turn.{Turn}
 use Rattle.changes.proofs.Walk.{all_done, from_start}
@@ -34,11 +36,20 @@ unfolding listed
 listed_append [] b = refl
 listed_append (e ∷ a) b = ap (λ (l : List ℕ). three_of e ++ l) (listed_append a b) ∙ sym (append_assoc (three_of e) (listed a) (listed b))
 
-one_at_most : (k : Kind) (i j n : ℕ) → n ≡ length (entry_of k 0 0) → (n ≡ length (entry_of k i j)) × (n ≤ 1)
-one_at_most Kind.Same i j n e = (e, omega (arith, e))
-one_at_most Kind.OnlyLeft i j n e = (e, omega (arith, e))
-one_at_most Kind.OnlyRight i j n e = (e, omega (arith, e))
-one_at_most Kind.Different i j n e = (e, omega (arith, e))
+three_long : (e : Entry) → length (three_of e) ≡ 3
+three_long (only_left i) = refl
+three_long (only_right j) = refl
+three_long (different i j) = refl
+
+-- what a turn that gives an entry puts
+put_of : (o : Option Kind) (k : Kind) (i j : ℕ) → o ≡ Some k → listed (given o i j) ≡ three_of (entry_of k i j)
+unfolding listed
+put_of o k i j e = ap (λ (p : Option Kind). listed (given p i j)) e ∙ append-nil (three_of (entry_of k i j))
+
+-- a turn gives one entry at the most
+one_at_most : (k : Option Kind) (i j n : ℕ) → n ≡ from_bool (is_some k) → (n ≡ length (given k i j)) × (n ≤ 1)
+one_at_most None i j n e = (e, omega (arith, e))
+one_at_most (Some k) i j n e = (e, omega (arith, e))
 
 module _ (left right : List ℕ) where
   -- within both tables
@@ -83,11 +94,11 @@ module _ (left right : List ℕ) where
   pub count_start : Counted 0 0 0
   count_start = record { within = at_start; small = omega arith; sum = sym (ap length (from_start left right)) ∙ sym (zero-add (length (changes_on left right 0 0))) }
 
-  pub count_turn : (i j entries n : ℕ) (t : Turn) → Counted i j entries → Turns left right i j t → n ≡ length (entry_of t.kind 0 0) → Counted t.i t.j (entries + n)
+  pub count_turn : (i j entries n : ℕ) (t : Turn) → Counted i j entries → Turns left right i j t → n ≡ from_bool (is_some t.kind) → Counted t.i t.j (entries + n)
   count_turn i j entries n t c u e =
       let o = one_at_most t.kind i j n e in
-      let l : length (changes_on left right i j) ≡ length (entry_of t.kind i j) + length (changes_on left right t.i t.j)
-      = ap length u.gives ∙ length-append (entry_of t.kind i j) (changes_on left right t.i t.j) in
+      let l : length (changes_on left right i j) ≡ length (given t.kind i j) + length (changes_on left right t.i t.j)
+      = ap length u.gives ∙ length-append (given t.kind i j) (changes_on left right t.i t.j) in
       record { within = inside i j t u; small = omega (arith, o.1, c.small, u.on); sum = omega (arith, c.sum, l, o.0) }
 
   pub count_end : (i j all entries : ℕ) → Counted i j entries → all ≡ places (length left) + places (length right) → all ≤ i + j → Counts left right entries
@@ -114,14 +125,20 @@ module _ (left right : List ℕ) where
     write_long = due_same _ _ _ _ _ _ w.due
 
     module _ (t : Turn) (u : Turns left right i j t) where
-      split : Due out₀ 0 (listed (changes left right)) (listed (entry_of t.kind i j) ++ listed (changes_on left right t.i t.j)) at out
-      split = due_is _ _ _ _ _ _ _ (ap listed u.gives ∙ listed_append (entry_of t.kind i j) (changes_on left right t.i t.j)) w.due
+      split : Due out₀ 0 (listed (changes left right)) (listed (given t.kind i j) ++ listed (changes_on left right t.i t.j)) at out
+      split = due_is _ _ _ _ _ _ _ (ap listed u.gives ∙ listed_append (given t.kind i j) (changes_on left right t.i t.j)) w.due
 
-      pub write_room : at + length (listed (entry_of t.kind i j)) ≤ length out
-      write_room = due_fits out₀ 0 (listed (changes left right)) (listed (entry_of t.kind i j)) (listed (changes_on left right t.i t.j)) at out split
+      module _ (k : Kind) (e : t.kind ≡ Some k) where
+        pub write_room : at + 3 ≤ length out
+        write_room =
+            omega (arith, due_fits out₀ 0 (listed (changes left right)) (listed (given t.kind i j)) (listed (changes_on left right t.i t.j)) at out split, ap length (put_of t.kind k i j e), three_long (entry_of k i j))
 
-      pub write_turn : (at' : ℕ) (out' : List ℕ) → Put out at (listed (entry_of t.kind i j)) at' out' → Written out₀ t.i t.j at' out'
-      write_turn at' out' p = record { within = inside i j t u; due = due_put out₀ 0 (listed (changes left right)) (listed (entry_of t.kind i j)) (listed (changes_on left right t.i t.j)) at out split at' out' p }
+        pub write_turn : (at' : ℕ) (out' : List ℕ) → Put out at (three_of (entry_of k i j)) at' out' → Written out₀ t.i t.j at' out'
+        write_turn at' out' p =
+            record {
+              within = inside i j t u;
+              due = due_put out₀ 0 (listed (changes left right)) (listed (given t.kind i j)) (listed (changes_on left right t.i t.j)) at out split at' out' (put_is out at _ _ at' out' (sym (put_of t.kind k i j e)) p);
+            }
 
     pub write_end : (all : ℕ) → all ≡ places (length left) + places (length right) → all ≤ i + j → out ≡ onto (listed (changes left right)) out₀
     write_end all e h = (put_onto _ _ _ _ (due_none _ _ _ _ _ _ w.due (ap listed (none_left i j all w.within e h) ∙ listed_none))).1

@@ -9,13 +9,6 @@ ghost use Rattle.compare_tables.specs.Walks.{Walks, Counts};
 
 use code::Code;
 
-// The code, and how many entries there are, three numbers each; 0 for a refusal.
-#[derive(Clone, Copy)]
-pub struct Compared {
-    pub code: Code,
-    pub entries: usize,
-}
-
 // How many differences there are.
 fn count(left: &[u32], right: &[u32]) -> usize
     requires { Walks left.now right.now }
@@ -27,8 +20,7 @@ fn count(left: &[u32], right: &[u32]) -> usize
     let mut entries: usize = 0;
     while i + j < all {
         let t = changes::next_turn(left, right, i, j);
-        let kind = t.kind;
-        entries += changes::entries_of(kind);
+        entries += usize::from(t.kind.is_some());
         i = t.i;
         j = t.j;
     }
@@ -46,58 +38,41 @@ fn write(left: &[u32], right: &[u32], out: &mut [u32])
     let mut at: usize = 0;
     while i + j < end {
         let t = changes::next_turn(left, right, i, j);
-        let kind = t.kind;
-        at = changes::put_entry(out, at, kind, i as u32, j as u32);
+        if let Some(kind) = t.kind {
+            at = changes::put_entry(out, at, kind, i as u32, j as u32);
+        }
         i = t.i;
         j = t.j;
     }
 }
 
-// Nothing is counted.
-fn refused(code: Code) -> Compared
-    ensures { result ≡ Rattle.compare_tables.specs.Compare.refused code }
-{
-    Compared { code, entries: 0 }
-}
-
-// What comparing answers; the tables are only looked at.
-fn answer_for(left: &[u32], right: &[u32], room: usize) -> Compared
+// How many entries comparing writes, or why it writes none; the tables are only looked at.
+fn answer_for(left: &[u32], right: &[u32], room: usize) -> Result<usize, Code>
     ensures { result ≡ compared left.now right.now room }
 {
-    if token::bad_table(left.len()) {
-        return refused(Code::BadTable);
+    if token::bad_table(left.len()) || token::bad_table(right.len()) {
+        return Err(Code::BadTable);
     }
-    if token::bad_table(right.len()) {
-        return refused(Code::BadTable);
+    if let Some(i) = order::first_fall(left) {
+        return Err(Code::Unsorted(i as u32));
     }
-    let l = order::first_fall(left);
-    if l < token::places_in(left.len()) {
-        return refused(Code::Unsorted(l as u32));
-    }
-    let r = order::first_fall(right);
-    if r < token::places_in(right.len()) {
-        return refused(Code::Unsorted(r as u32));
+    if let Some(j) = order::first_fall(right) {
+        return Err(Code::Unsorted(j as u32));
     }
     let entries = count(left, right);
     let numbers = 3 * entries;
     if room < numbers {
-        return refused(Code::NoRoom(numbers as u64));
+        return Err(Code::NoRoom(numbers as u64));
     }
-    Compared {
-        code: Code::Done,
-        entries,
-    }
+    Ok(entries)
 }
 
-// Every difference between two tables, three numbers each: 1 only left, 2 only right or 3 different, then both indices.
-pub fn compare_tables(left: &[u32], right: &[u32], out: &mut [u32]) -> Compared
+// Every difference between two tables, three numbers each: 1 only left, 2 only right or 3 different, then both indices. Answers how
+// many there are.
+pub fn compare_tables(left: &[u32], right: &[u32], out: &mut [u32]) -> Result<usize, Code>
     ensures { Compares left.now right.now out.old result out.new }
 {
-    let answer = answer_for(left, right, out.len());
-    let code = answer.code;
-    if code::code_of(code) != 0 {
-        return answer;
-    }
+    let entries = answer_for(left, right, out.len())?;
     write(left, right, out);
-    answer
+    Ok(entries)
 }

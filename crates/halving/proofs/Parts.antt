@@ -7,7 +7,7 @@ use native.Mathlib.Omega.{arith}
 use lib.Dec.{leb, ltb}
 use lib.ListN.{length, take, drop, get_or}
 use lib.Seq.{get_or-take, get_or-drop}
-use borrow.Author.Tests.{leb-true, leb-false, le-leb, lt-leb, ltb-true, ltb-false}
+use borrow.Author.Tests.{leb-true, leb-false, ltb-true, ltb-false}
 use Rattle.list.specs.Pick.{pick}
 use Rattle.token.specs.Table.{width, places, token_at}
 use Rattle.token.specs.declared.Token.{Token}
@@ -15,7 +15,7 @@ use Rattle.order.specs.Keys.{key_of, key_at, Rising}
 use Rattle.order.specs.Order.{NeverFalls}
 use Rattle.order.proofs.Before.{not_before, up_key, before_key}
 use Rattle.lookup.specs.Lookup.{Fits, lookup_of}
-use Rattle.lookup.specs.Parts.{index_of}
+use Rattle.std.specs.Prelude.{Some, None}
 use Rattle.lookup.proofs.Best.{is_best, is_none}
 use Rattle.halving.specs.Law.{LastUpTo}
 use Rattle.halving.specs.Within.{count_of, Within}
@@ -23,14 +23,6 @@ use Rattle.halving.proofs.Law.{halves}
 
 -- a token counted
 module _ (a asked : ℕ) where
-  pub counted : a ≤ asked → 1 ≡ count_of a asked
-  unfolding count_of
-  counted h = rw (le-leb a asked h)
-
-  pub not_counted : asked < a → 0 ≡ count_of a asked
-  unfolding count_of
-  not_counted h = rw (lt-leb a asked h)
-
   pub at_most : (r : ℕ) → r ≡ count_of a asked → r ≤ 1
   unfolding count_of
   at_most r e = by (leb a asked) e
@@ -196,8 +188,8 @@ module _ (table : List ℕ) (rising : Rising table) (cols : (j : ℕ) → (token
               at_start true q = let z = w.from (ltb-true 0 last q) in absurd (omega arith)
               at_start false q = let z = ltb-false 0 last q in omega arith
 
-  nothing : (key_at table last ≤ key_of line col → (token_at table last).dst_line ≡ line → ⊥) → 4294967295 ≡ index_of (lookup_of table line col)
-  nothing n = sym (ap index_of (is_none table line col (none_fits n)))
+  nothing : (key_at table last ≤ key_of line col → (token_at table last).dst_line ≡ line → ⊥) → None ≡ lookup_of table line col
+  nothing n = sym (is_none table line col (none_fits n))
 
   -- t is the token as it was read
   module _ (t : Token) (et : t ≡ token_at table last) where
@@ -207,13 +199,13 @@ module _ (table : List ℕ) (rising : Rising table) (cols : (j : ℕ) → (token
     col_is : t.dst_col ≡ (token_at table last).dst_col
     col_is = ap (λ (u : Token). u.dst_col) et
 
-    pub other_line : (t.dst_line ≡ line → ⊥) → 4294967295 ≡ index_of (lookup_of table line col)
+    pub other_line : (t.dst_line ≡ line → ⊥) → None ≡ lookup_of table line col
     other_line ne = nothing (λ _ e. ne (line_is ∙ e))
 
-    pub past_it : col < t.dst_col → 4294967295 ≡ index_of (lookup_of table line col)
+    pub past_it : col < t.dst_col → None ≡ lookup_of table line col
     past_it h = nothing (λ k e. omega (arith, e, col_is))
 
-    pub found : t.dst_line ≡ line → t.dst_col ≤ col → last ≡ index_of (lookup_of table line col)
+    pub found : t.dst_line ≡ line → t.dst_col ≤ col → Some last ≡ lookup_of table line col
     found e h =
         let on : (token_at table last).dst_line ≡ line = sym line_is ∙ e in
-        sym (ap index_of (is_best table line col last ((halves table line col last never_falls (is_last (omega (arith, on, col_is)))).best on)))
+        sym (is_best table line col last ((halves table line col last never_falls (is_last (omega (arith, on, col_is)))).best on))

@@ -6,10 +6,9 @@ ghost use Rattle.list.specs.Pick.{pick};
 ghost use Rattle.token.specs.Table.{places, bad_table};
 ghost use Rattle.order.specs.Keys.{key_of, key_at, Rising};
 ghost use Rattle.lookup.specs.Lookup.{lookup_of};
-ghost use Rattle.lookup.specs.Parts.{index_of};
 ghost use Rattle.halving.specs.Within.{count_of, Within};
 
-use token::{NONE, WIDTH};
+use token::WIDTH;
 
 // 1 where the token whose numbers begin at `at` is at or before the position, else 0. What is counted is no branch: whether a token is
 // past the position is as good as random.
@@ -17,10 +16,7 @@ fn counted_at(numbers: &[u32], at: usize, asked: u64) -> usize
     requires { at + 1 < length numbers.now }
     ensures { result ≡ count_of (key_of (get_or numbers.now at 0) (get_or numbers.now (at + 1) 0)) asked }
 {
-    if order::key_of(numbers[at], numbers[at + 1]) <= asked {
-        return 1;
-    }
-    0
+    usize::from(order::key_of(numbers[at], numbers[at + 1]) <= asked)
 }
 
 // Halves twice: of `size` tokens, where the part begins that the position leads to. Three tokens are read at once, as numbers behind
@@ -60,25 +56,25 @@ pub fn last_of_few(table: &[u32], base: usize, size: usize, asked: u64) -> usize
     base + second + third
 }
 
-// The token at a position that leads to the one at `last`; NONE where there is none.
-pub fn best_at(table: &[u32], last: usize, line: u32, col: u32) -> u32
+// The token at a position that leads to the one at `last`.
+pub fn best_at(table: &[u32], last: usize, line: u32, col: u32) -> Option<u32>
     requires { ((bad_table (length table.now) ≡ false) × Rising table.now) × Within table.now (key_of line col) last 1 }
-    ensures { result ≡ index_of (lookup_of table.now line col) }
+    ensures { result ≡ lookup_of table.now line col }
 {
     let t = token::token_at(table, last);
     if t.dst_line != line {
-        return NONE;
+        return None;
     }
     if col < t.dst_col {
-        return NONE;
+        return None;
     }
-    last as u32
+    Some(last as u32)
 }
 
 // The same where three tokens at the most are left.
-pub fn best_of_few(table: &[u32], base: usize, size: usize, line: u32, col: u32) -> u32
+pub fn best_of_few(table: &[u32], base: usize, size: usize, line: u32, col: u32) -> Option<u32>
     requires { ((bad_table (length table.now) ≡ false) × (Rising table.now × (size ≤ 3))) × Within table.now (key_of line col) base size }
-    ensures { result ≡ index_of (lookup_of table.now line col) }
+    ensures { result ≡ lookup_of table.now line col }
 {
     let last = last_of_few(table, base, size, order::key_of(line, col));
     best_at(table, last, line, col)

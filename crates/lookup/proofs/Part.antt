@@ -3,7 +3,7 @@ use mathlib.Core.Path.{◌≡◌, refl, subst}
 use mathlib.Core.Bool.{Bool, true, false}
 use mathlib.Core.Logic.{inl, inr}
 use mathlib.Core.List.{List}
-use mathlib.Core.Option.{Option, none, some}
+use Rattle.std.specs.Prelude.{Option, Some, None}
 use Prim.Native.Nat.{ℕ, ◌<◌, ◌≤◌}
 use native.Mathlib.Omega.{arith}
 use lib.Dec.{eqb, leb, ltb}
@@ -35,8 +35,8 @@ module _ (table : List ℕ) (line col : ℕ) where
     -- nothing in the part fits
     module _ (unfit : (j : ℕ) → from ≤ j → j < to → fits table line col j ≡ true → ⊥) where
       stays : (o : Option ℕ) → Among table line col from o → Among table line col to o
-      stays none a = split (λ j. fits table line col j ≡ true → ⊥) a unfit
-      stays (some i) a =
+      stays None a = split (λ j. fits table line col j ≡ true → ⊥) a unfit
+      stays (Some i) a =
           (omega (arith, a.0), (a.1.0, split (λ j. fits table line col j ≡ true → NotAfter table j i) a.1.1 (λ j l h f. absurd (unfit j l h f))))
 
       pub passed : best_of table line col to ≡ best_of table line col from
@@ -45,25 +45,25 @@ module _ (table : List ℕ) (line col : ℕ) where
     -- k is the best of the part
     module _ (k : ℕ) (begins : from ≤ k) (ends : k < to) (f : fits table line col k ≡ true)
         (most : (j : ℕ) → from ≤ j → j < to → fits table line col j ≡ true → NotAfter table j k) where
-      pub first_found : best_of table line col from ≡ none → best_of table line col to ≡ some k
+      pub first_found : best_of table line col from ≡ None → best_of table line col to ≡ Some k
       first_found e =
           let a = subst (Among table line col from) e (among table line col from) in
-          is (some k) (ends, (f, split (λ j. fits table line col j ≡ true → NotAfter table j k) (λ j l g. absurd (a j l g)) most))
+          is (Some k) (ends, (f, split (λ j. fits table line col j ≡ true → NotAfter table j k) (λ j l g. absurd (a j l g)) most))
 
-      module _ (i : ℕ) (e : best_of table line col from ≡ some i) where
-        before : Among table line col from (some i)
+      module _ (i : ℕ) (e : best_of table line col from ≡ Some i) where
+        before : Among table line col from (Some i)
         before = subst (Among table line col from) e (among table line col from)
 
-        pub later_found : (token_at table i).dst_col ≤ (token_at table k).dst_col → best_of table line col to ≡ some k
+        pub later_found : (token_at table i).dst_col ≤ (token_at table k).dst_col → best_of table line col to ≡ Some k
         later_found c =
-            is (some k)
+            is (Some k)
             (ends, (f, split (λ j. fits table line col j ≡ true → NotAfter table j k) (λ j l g. past table line col j i k c (omega arith) (before.1.1 j l g)) most))
 
         less : (j : ℕ) → (token_at table k).dst_col < (token_at table i).dst_col → NotAfter table j k → NotAfter table j i
         less j c (inl l) = inl (omega arith)
         less j c (inr q) = inl (omega (arith, q.0))
 
-        pub earlier_kept : (token_at table k).dst_col < (token_at table i).dst_col → best_of table line col to ≡ some i
+        pub earlier_kept : (token_at table k).dst_col < (token_at table i).dst_col → best_of table line col to ≡ Some i
         earlier_kept c =
-            is (some i)
+            is (Some i)
             (omega (arith, before.0), (before.1.0, split (λ j. fits table line col j ≡ true → NotAfter table j i) before.1.1 (λ j l h g. less j c (most j l h g))))

@@ -1,7 +1,7 @@
 -- Looking up goes by the first six numbers of each token. Assumes nothing.
 use mathlib.Core.Path.{◌≡◌, refl, ◌∙◌, ap, ap₂}
 use mathlib.Core.List.{List}
-use mathlib.Core.Option.{Option, none, some}
+use Rattle.std.specs.Prelude.{Option, Some, None}
 use Prim.Native.Nat.{ℕ, zero, suc, ◌<◌}
 use native.Mathlib.Omega.{arith}
 use lib.Dec.{eqb, leb, ltb}
@@ -18,10 +18,10 @@ module _ (a b : List ℕ) (line col : ℕ) where
   abbrev Agree : ℕ → Type 0
   Agree n = (i : ℕ) → i < n → bare (token_at a i) ≡ bare (token_at b i)
 
-  later_same : (n : ℕ) → Agree (suc n) → (o : Option ℕ) → ((j : ℕ) → o ≡ some j → j < n) → later a n o ≡ later b n o
-  later_same n h none w = refl
-  later_same n h (some j) w =
-      ap₂ (λ (t u : Token). pick (ltb t.dst_col u.dst_col) (some j) (some n)) (h n (omega arith)) (h j (omega (arith, w j refl)))
+  later_same : (n : ℕ) → Agree (suc n) → (o : Option ℕ) → ((j : ℕ) → o ≡ Some j → j < n) → later a n o ≡ later b n o
+  later_same n h None w = refl
+  later_same n h (Some j) w =
+      ap₂ (λ (t u : Token). pick (ltb t.dst_col u.dst_col) (Some j) (Some n)) (h n (omega arith)) (h j (omega (arith, w j refl)))
 
   best_same : (n : ℕ) → Agree n → best_of a line col n ≡ best_of b line col n
   unfolding best_of

@@ -4,38 +4,26 @@
 ghost use Rattle.std.specs.Prelude.{◌≡◌, false, ◌<◌, eqb, leb, length};
 ghost use Rattle.list.specs.Pick.{both};
 ghost use Rattle.token.specs.Table.{bad_table, places, token_at};
-ghost use Rattle.lookup.specs.Lookup.{Looks, best_of, lookup_of, found_of, found_code, found_number};
-ghost use Rattle.lookup.specs.Parts.{Between, index_of};
+ghost use Rattle.lookup.specs.Lookup.{Looks, best_of, lookup_of, found_out};
+ghost use Rattle.lookup.specs.Parts.{Between};
 
+use code::{Answer, Code};
 use token::NONE;
 
-// The index of the token that is found, or why there is none.
-#[derive(Clone, Copy)]
-pub enum Found {
-    At(u32),
-    Nothing,
-    BadTable,
-}
-
-// The code of an answer.
-pub fn found_code(f: Found) -> u64
-    ensures { result ≡ found_code f }
+// What a lookup answers in the form in which it goes out: code 0 carries the index, or NONE where there is no token.
+pub fn found_out(found: Result<Option<u32>, Code>) -> Answer
+    ensures { result ≡ found_out found }
 {
-    match f {
-        Found::At(_) => 0,
-        Found::Nothing => 0,
-        Found::BadTable => 11,
-    }
-}
-
-// The number with that code.
-pub fn found_number(f: Found) -> u64
-    ensures { result ≡ found_number f }
-{
-    match f {
-        Found::At(i) => i as u64,
-        Found::Nothing => 4294967295,
-        Found::BadTable => 0,
+    match found {
+        Ok(Some(i)) => Answer {
+            code: 0,
+            number: i as u64,
+        },
+        Ok(None) => Answer {
+            code: 0,
+            number: NONE as u64,
+        },
+        Err(c) => Answer::from(c),
     }
 }
 
@@ -55,48 +43,46 @@ fn takes(table: &[u32], i: usize, line: u32, col: u32, least: u32) -> bool
     least <= t.dst_col
 }
 
-// The best token before `to`, where `found` is the best before `from`; NONE where there is none.
-pub fn best_in(table: &[u32], from: usize, to: usize, line: u32, col: u32, found: u32) -> u32
-    requires { Between table.now from to × (found ≡ index_of (best_of table.now line col from)) }
-    ensures { result ≡ index_of (best_of table.now line col to) }
+// The best token before `to`, where `found` is the best before `from`.
+pub fn best_in(
+    table: &[u32],
+    from: usize,
+    to: usize,
+    line: u32,
+    col: u32,
+    found: Option<u32>,
+) -> Option<u32>
+    requires { Between table.now from to × (found ≡ best_of table.now line col from) }
+    ensures { result ≡ best_of table.now line col to }
 {
-    let mut best = found as usize;
-    let mut least: u32 = 0;
-    if found != NONE {
-        let t = token::token_at(table, found as usize);
-        least = t.dst_col;
-    }
-    let mut i = from;
-    while i < to {
+    let mut best = found;
+    let mut least = match found {
+        Some(i) => token::token_at(table, i as usize).dst_col,
+        None => 0,
+    };
+    for i in from..to {
         if takes(table, i, line, col, least) {
-            best = i;
-            let t = token::token_at(table, i);
-            least = t.dst_col;
+            best = Some(i as u32);
+            least = token::token_at(table, i).dst_col;
         }
-        i += 1;
     }
-    best as u32
+    best
 }
 
 // The lookup in a table that is known to be one.
-pub fn look_in(table: &[u32], line: u32, col: u32) -> Found
+pub fn look_in(table: &[u32], line: u32, col: u32) -> Option<u32>
     requires { bad_table (length table.now) ≡ false }
-    ensures { result ≡ found_of (lookup_of table.now line col) }
+    ensures { result ≡ lookup_of table.now line col }
 {
-    let places = token::places_in(table.len());
-    let best = best_in(table, 0, places, line, col, NONE);
-    if best == NONE {
-        return Found::Nothing;
-    }
-    Found::At(best)
+    best_in(table, 0, token::places_in(table.len()), line, col, None)
 }
 
 // The token at a position: the largest column up to the asked one on its line, among equals the latest in the table.
-pub fn lookup_token(table: &[u32], line: u32, col: u32) -> Found
+pub fn lookup_token(table: &[u32], line: u32, col: u32) -> Result<Option<u32>, Code>
     ensures { Looks table.now line col result }
 {
     if token::bad_table(table.len()) {
-        return Found::BadTable;
+        return Err(Code::BadTable);
     }
-    look_in(table, line, col)
+    Ok(look_in(table, line, col))
 }

@@ -3,14 +3,14 @@ use mathlib.Core.Path.{◌≡◌, refl, sym, subst}
 use mathlib.Core.Bool.{Bool, true, false}
 use mathlib.Core.Logic.{◌⊎◌, inl, inr}
 use mathlib.Core.List.{List}
-use mathlib.Core.Option.{Option, none, some}
+use Rattle.std.specs.Prelude.{Option, Some, None, is_none}
 use Prim.Native.Nat.{ℕ, zero, suc, ◌+◌, ◌-◌, ◌<◌, ◌≤◌}
 use native.Mathlib.Omega.{arith}
 use native.Mathlib.Nat.{eq-or-lt_of_le, add-zero}
 use lib.ListN.{length}
 use Rattle.list.specs.Pick.{pick}
 use Rattle.token.specs.Table.{places, token_at, tokens_from}
-use Rattle.order.specs.Order.{falls, fall_from, fall_in, first_fall, is_nowhere, sorted, NeverFalls, FallSays, SortedSays}
+use Rattle.order.specs.Order.{falls, fall_from, fall_in, first_fall, sorted, NeverFalls, FallSays, SortedSays}
 use Rattle.order.proofs.Before.{impossible, UpTo, up_to, not_before, up_to_up}
 
 module _ (table : List ℕ) where
@@ -26,16 +26,16 @@ module _ (table : List ℕ) where
     pub falls_at : (j : ℕ) → j + 1 ≡ k → falls (token_at table j) (token_at table k) ≡ true
 
   abbrev pub Next : ℕ → ℕ → Option ℕ → Type 0
-  Next i n none = (j : ℕ) → i ≤ j → j < i + n → Steps j
-  Next i n (some k) = First i n k
+  Next i n None = (j : ℕ) → i ≤ j → j < i + n → Steps j
+  Next i n (Some k) = First i n k
 
   from_first : (i n : ℕ) → Steps i → (o : Option ℕ) → Next (i + 1) n o → Next i (suc n) o
-  from_first i n s none h = λ j l g. go j g (eq-or-lt_of_le l)
+  from_first i n s None h = λ j l g. go j g (eq-or-lt_of_le l)
     where
       go : (j : ℕ) → j < i + suc n → (i ≡ j) ⊎ (i < j) → Steps j
       go j g (inl q) = subst Steps q s
       go j g (inr l) = h j (omega arith) (omega arith)
-  from_first i n s (some k) h =
+  from_first i n s (Some k) h =
       record {
         behind = omega (arith, h.behind);
         ends = omega (arith, h.ends);
@@ -56,7 +56,7 @@ module _ (table : List ℕ) where
         falls_at = λ j q. (let z : j ≡ i = omega (arith, q) in subst (λ (m : ℕ). falls (token_at table m) (token_at table (i + 1)) ≡ true) (sym z) e);
       }
 
-  branch : (i n : ℕ) (b : Bool) → falls (token_at table i) (token_at table (i + 1)) ≡ b → (o : Option ℕ) → Next (i + 1) n o → Next i (suc n) (pick b (some (i + 1)) o)
+  branch : (i n : ℕ) (b : Bool) → falls (token_at table i) (token_at table (i + 1)) ≡ b → (o : Option ℕ) → Next (i + 1) n o → Next i (suc n) (pick b (Some (i + 1)) o)
   branch i n true e o h = here i n e
   branch i n false e o h = from_first i n e o h
 
@@ -89,13 +89,13 @@ module _ (table : List ℕ) where
       let e : i + (j - i) ≡ j = omega arith in
       subst (λ (m : ℕ). falls (token_at table i) (token_at table m) ≡ false) e (far n s i (j - i) (omega arith))
 
-  no_tokens : places (length table) ≡ 0 → first_fall table ≡ none
+  no_tokens : places (length table) ≡ 0 → first_fall table ≡ None
   unfolding tokens_from
   no_tokens e = rw e
 
   of_all : (n : ℕ) → places (length table) ≡ suc n → (o : Option ℕ) → Next 0 n o → FallSays table o
-  of_all n e none h = never (places (length table)) (λ j g. h j (omega arith) (omega (arith, e)))
-  of_all n e (some k) h =
+  of_all n e None h = never (places (length table)) (λ j g. h j (omega arith) (omega (arith, e)))
+  of_all n e (Some k) h =
       record {
         behind = h.behind;
         within = omega (arith, h.ends, e);
@@ -118,6 +118,6 @@ sorted_says table = says table
 pub sorted_never : (table : List ℕ) → sorted table ≡ true → NeverFalls table (places (length table))
 sorted_never table e = by (first_fall table) (says table) e
   where
-    by : (o : Option ℕ) → FallSays table o → is_nowhere o ≡ true → NeverFalls table (places (length table))
-    by none f q = f
-    by (some k) f q = impossible (sym q)
+    by : (o : Option ℕ) → FallSays table o → is_none o ≡ true → NeverFalls table (places (length table))
+    by None f q = f
+    by (Some k) f q = impossible (sym q)

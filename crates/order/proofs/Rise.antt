@@ -2,7 +2,7 @@
 use mathlib.Core.Path.{◌≡◌, refl, sym, ◌∙◌, ap, subst}
 use mathlib.Core.Bool.{Bool, true, false}
 use mathlib.Core.List.{List}
-use mathlib.Core.Option.{Option, none, some}
+use Rattle.std.specs.Prelude.{Option, Some, None, is_some, is_none, not}
 use Prim.Native.Nat.{ℕ, ◌+◌, ◌*◌, ◌-◌, ◌<◌, ◌≤◌}
 use native.Mathlib.Omega.{arith}
 use native.Mathlib.Nat.{add-zero}
@@ -11,8 +11,8 @@ use lib.ListN.{length, get_or}
 use borrow.Author.Count.{below_more}
 use borrow.Author.Tests.{ltb-true, ltb-false}
 use Rattle.token.specs.Table.{width, places, token_at}
-use Rattle.order.specs.Order.{first_fall, is_nowhere, sorted, NeverFalls, FirstFall, FallSays}
-use Rattle.order.specs.Keys.{key_at, Rise, Rising, Settles, FallsBehind, fall_or}
+use Rattle.order.specs.Order.{first_fall, sorted, NeverFalls, FirstFall, FallSays}
+use Rattle.order.specs.Keys.{key_at, Rise, Rising, Settles, FirstBehind, FallsBehind}
 use Rattle.order.proofs.Before.{impossible, up_to, not_before, key_up, up_key}
 use Rattle.order.proofs.Falls.{says, sorted_never}
 
@@ -49,34 +49,17 @@ module _ (table : List ℕ) where
     fell h low to l g r = let z : key_at table at ≤ key_at table at' = rw e (r at l g) in omega (arith, ep, u.is)
 
     -- it is the first that falls
-    pub falls_here : p < k → (to : ℕ) → from ≤ at → at < to → FallsBehind table from to at'
+    pub falls_here : p < k → (to : ℕ) → from ≤ at → at < to → FirstBehind table from to at'
     falls_here h to l g =
         let q : at' - 1 ≡ at = omega (arith, e) in
-        record {
-          behind = omega (arith, e);
-          ends = omega (arith, e);
-          rise = rw q u.rise;
-          falls = λ _. rw q (omega (arith, ep, u.is));
-        }
+        record { behind = omega (arith, e); ends = omega (arith, e); rise = rw q u.rise; falls = rw q (omega (arith, ep, u.is)) }
 
-  -- none falls up to `to`
-  pub none_falls : (from to at k : ℕ) → at ≤ to → from ≤ to → to ≤ at → Upward from at k → FallsBehind table from to (to + 1)
-  none_falls from to at k a l h u =
-      let q : to + 1 - 1 ≡ at = omega arith in
-      record { behind = omega arith; ends = omega arith; rise = rw q u.rise; falls = λ g. absurd (omega arith) }
-
-  -- past the end exactly where none falls
-  pub past_end : (from to r : ℕ) → FallsBehind table from to r → Settles (Rise table from to) (ltb to r)
-  past_end from to r f = go (ltb to r) refl
-    where
-      go : (b : Bool) → ltb to r ≡ b → Settles (Rise table from to) b
-      go true e = says_yes (λ j l g. f.rise j l (let z = ltb-true to r e in omega arith))
-      go false e =
-          let z = ltb-false to r e in
-          says_no (λ x.
-          (let y : key_at table (r - 1) ≤ key_at table (r - 1 + 1) = x (r - 1) (omega (arith, f.behind)) (omega (arith, f.behind)) in
-          let w : key_at table (r - 1) ≤ key_at table r = subst (λ (m : ℕ). key_at table (r - 1) ≤ key_at table m) (let q : r - 1 + 1 ≡ r = omega (arith, f.behind) in q) y in
-          omega (arith, f.falls z)))
+  -- where one falls they do not rise
+  falls_so : (from to k : ℕ) → FirstBehind table from to k → (low : ℕ) → low ≤ from → Rise table low to → ⊥
+  falls_so from to k f low l r =
+      let e : k - 1 + 1 ≡ k = omega (arith, f.behind) in
+      let h : key_at table (k - 1) ≤ key_at table k = subst (λ (m : ℕ). key_at table (k - 1) ≤ key_at table m) e (r (k - 1) (omega (arith, f.behind)) (omega (arith, f.behind, f.ends))) in
+      omega (arith, f.falls)
 
   -- one part behind the other
   join : (a b b' c : ℕ) → b' ≤ b → Rise table a b → Rise table b' c → Rise table a c
@@ -157,42 +140,46 @@ module _ (table : List ℕ) where
 
     -- and one that rises from each token to the next is sorted
     module _ (to : ℕ) (last : to + 1 ≡ places (length table)) where
-      sorted_if : Rise table 0 to → (o : Option ℕ) → FallSays table o → true ≡ is_nowhere o
-      sorted_if r none f = refl
-      sorted_if r (some k) f =
+      sorted_if : Rise table 0 to → (o : Option ℕ) → FallSays table o → None ≡ o
+      sorted_if r None f = refl
+      sorted_if r (Some k) f =
           let e : k - 1 + 1 ≡ k = omega (arith, f.behind) in
           let h : key_at table (k - 1) ≤ key_at table k = subst (λ (m : ℕ). key_at table (k - 1) ≤ key_at table m) e (r (k - 1) (omega arith) (omega (arith, f.within, f.behind))) in
           impossible (sym (f.at_it (k - 1) e) ∙ not_before _ _ _ _ (up_key _ _ _ _ (cols (k - 1)) (cols k) h))
 
-      is_sorted : Rise table 0 to → true ≡ sorted table
-      is_sorted r = sorted_if r (first_fall table) (says table)
+      never_falls : Rise table 0 to → None ≡ first_fall table
+      never_falls r = sorted_if r (first_fall table) (says table)
 
-      unsorted_if : (Rise table 0 to → ⊥) → (o : Option ℕ) → FallSays table o → false ≡ is_nowhere o
-      unsorted_if n none f = absurd (n (λ j l g. by_keys f j (j + 1) (omega arith) (omega (arith, last))))
-      unsorted_if n (some k) f = refl
+      unsorted_if : (Rise table 0 to → ⊥) → (o : Option ℕ) → FallSays table o → false ≡ is_none o
+      unsorted_if n None f = absurd (n (λ j l g. by_keys f j (j + 1) (omega arith) (omega (arith, last))))
+      unsorted_if n (Some k) f = refl
 
       not_sorted : (Rise table 0 to → ⊥) → false ≡ sorted table
       not_sorted n = unsorted_if n (first_fall table) (says table)
 
       -- up to `mid`, and from there on
-      module _ (mid : ℕ) (r : Bool) where
-        pub by_parts : mid ≤ to → Settles (Rise table 0 mid) r → r ≡ false → false ≡ sorted table
-        by_parts h d e = not_sorted (λ x. d.no e (λ j l g. x j l (omega arith)))
+      module _ (mid : ℕ) (r : Bool) (h : mid ≤ to) (d : Settles (Rise table 0 mid) r) where
+        pub by_parts : r ≡ false → false ≡ sorted table
+        by_parts e = not_sorted (λ x. d.no e (λ j l g. x j l (omega arith)))
 
-        pub by_rest : Settles (Rise table 0 mid) r → r ≡ true → (t : Bool) → Settles (Rise table mid to) t → t ≡ sorted table
-        by_rest d e true f = is_sorted (join 0 mid mid to (omega arith) (d.yes e) (f.yes refl))
-        by_rest d e false f = not_sorted (λ x. f.no refl (λ j l g. x j (omega arith) g))
+        by_rest_if : r ≡ true → (o : Option ℕ) → FallsBehind table mid to o → is_none o ≡ sorted table
+        by_rest_if e None f = ap is_none (never_falls (join 0 mid mid to (omega arith) (d.yes e) f))
+        by_rest_if e (Some k) f = not_sorted (λ x. falls_so mid to k f 0 (omega arith) x)
+
+        pub by_rest : r ≡ true → (o : Option ℕ) → FallsBehind table mid to o → (t : Bool) → is_some o ≡ not t → t ≡ sorted table
+        by_rest e o f true q = ap not (sym q) ∙ by_rest_if e o f
+        by_rest e o f false q = ap not (sym q) ∙ by_rest_if e o f
 
   pub empty : places (length table) ≡ 0 → true ≡ sorted table
   empty e = empty_if (first_fall table) (says table)
     where
-      empty_if : (o : Option ℕ) → FallSays table o → true ≡ is_nowhere o
-      empty_if none f = refl
-      empty_if (some k) f = absurd (omega (arith, f.within, e))
+      empty_if : (o : Option ℕ) → FallSays table o → true ≡ is_none o
+      empty_if None f = refl
+      empty_if (Some k) f = absurd (omega (arith, f.within, e))
 
-  -- the first token that falls, of a table that is not sorted
-  module _ (cols : (j : ℕ) → (token_at table j).dst_col < 4294967296) (to r : ℕ) (last : to + 1 ≡ places (length table)) (f : FallsBehind table 0 to r) where
-    module _ (k : ℕ) (s : FirstFall table k) where
+  -- the first token that falls
+  module _ (cols : (j : ℕ) → (token_at table j).dst_col < 4294967296) (to : ℕ) (last : to + 1 ≡ places (length table)) where
+    module _ (r k : ℕ) (f : FirstBehind table 0 to r) (s : FirstFall table k) where
       back : (n : ℕ) → 0 < n → n - 1 + 1 ≡ n
       back n h = omega arith
 
@@ -206,8 +193,7 @@ module _ (table : List ℕ) where
       not_before_it : r < k → ⊥
       not_before_it h =
           let up : key_at table (r - 1) ≤ key_at table r = key_up _ _ _ _ (cols (r - 1)) (up_to _ _ _ _ (s.before_it (r - 1) r (omega arith) h)) in
-          let z = f.falls (omega (arith, s.within, last)) in
-          omega arith
+          omega (arith, f.falls)
 
       is_it : r ≡ k
       is_it = go (ltb k r) refl (ltb r k) refl
@@ -217,19 +203,20 @@ module _ (table : List ℕ) where
           go false e true g = absurd (not_before_it (ltb-true r k g))
           go false e false g = let x = ltb-false k r e in let y = ltb-false r k g in omega arith
 
-    first_if : (o : Option ℕ) → FallSays table o → is_nowhere o ≡ false → r ≡ fall_or (places (length table)) o
-    first_if none s e = impossible e
-    first_if (some k) s e = is_it k s
+    first_if : (r : ℕ) → FirstBehind table 0 to r → (o : Option ℕ) → FallSays table o → Some r ≡ o
+    first_if r f None s = absurd (falls_so 0 to r f 0 (omega arith) (λ j l g. by_keys cols s j (j + 1) (omega arith) (omega (arith, last))))
+    first_if r f (Some k) s = ap Some (is_it r k f s)
 
-    pub first_falls_at : sorted table ≡ false → r ≡ fall_or (places (length table)) (first_fall table)
-    first_falls_at = first_if (first_fall table) (says table)
+    pub first_is : (o : Option ℕ) → FallsBehind table 0 to o → o ≡ first_fall table
+    first_is None f = never_falls cols to last f
+    first_is (Some r) f = first_if r f (first_fall table) (says table)
 
-  pub none_falls_at : sorted table ≡ true → (n : ℕ) → n ≡ fall_or n (first_fall table)
-  none_falls_at e n = by (first_fall table) e
+  pub none_falls : sorted table ≡ true → None ≡ first_fall table
+  none_falls e = by (first_fall table) e
     where
-      by : (o : Option ℕ) → is_nowhere o ≡ true → n ≡ fall_or n o
-      by none q = refl
-      by (some k) q = impossible (sym q)
+      by : (o : Option ℕ) → is_none o ≡ true → None ≡ o
+      by None q = refl
+      by (Some k) q = impossible (sym q)
 
   -- a table that is not sorted has a token
   pub some_token : sorted table ≡ false → 0 < places (length table)

@@ -1,7 +1,6 @@
 -- Helpers: what inner contracts and proofs need; no contract of an entry and no theorem reaches this file.
 -- A position as one number, and tables by these numbers. Assumes nothing.
-use Rattle.std.specs.Prelude.{◌≡◌, Bool, true, false, List, ℕ, ◌+◌, ◌-◌, ◌*◌, ◌≤◌, ◌<◌, length}
-use Rattle.std.proofs.Math.Option.{Option, none, some}
+use Rattle.std.specs.Prelude.{◌≡◌, Bool, true, false, List, ℕ, ◌+◌, ◌-◌, ◌*◌, ◌≤◌, ◌<◌, length, Option, Some, None}
 use Rattle.token.specs.Table.{places, token_at}
 
 -- a position as one number, in the order of line, then column
@@ -25,14 +24,13 @@ pub record Settles (P : Type 0) (r : Bool) : Type 0 where
   pub yes : r ≡ true → P
   pub no : r ≡ false → P → ⊥
 
--- of the tokens behind `from` and up to `to`, the r-th is the first that falls; r is one past `to` where none does
-pub record FallsBehind (table : List ℕ) (from to r : ℕ) : Type 0 where
+-- of the tokens behind `from` and up to `to`, the r-th is the first that falls
+pub record FirstBehind (table : List ℕ) (from to r : ℕ) : Type 0 where
   pub behind : from < r
-  pub ends : r ≤ to + 1
+  pub ends : r ≤ to
   pub rise : Rise table from (r - 1)
-  pub falls : r ≤ to → key_at table r < key_at table (r - 1)
+  pub falls : key_at table r < key_at table (r - 1)
 
--- the index, or n where there is none
-abbrev pub fall_or : ℕ → Option ℕ → ℕ
-fall_or n none = n
-fall_or n (some k) = k
+abbrev pub FallsBehind : List ℕ → ℕ → ℕ → Option ℕ → Type 0
+FallsBehind table from to None = Rise table from to
+FallsBehind table from to (Some r) = FirstBehind table from to r

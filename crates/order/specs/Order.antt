@@ -1,6 +1,5 @@
 -- docs/RULES.md, Order: whether a table is sorted by line and column, and where it first is not. Assumes nothing.
-use Rattle.std.specs.Prelude.{◌≡◌, Bool, true, false, List, [], ◌∷◌, ℕ, ◌+◌, ◌<◌, ◌≤◌, eqb, ltb, length}
-use Rattle.std.proofs.Math.Option.{Option, none, some}
+use Rattle.std.specs.Prelude.{◌≡◌, Bool, true, false, List, [], ◌∷◌, ℕ, ◌+◌, ◌<◌, ◌≤◌, eqb, ltb, length, Option, Some, None, is_none}
 use Rattle.list.specs.Pick.{pick}
 use Rattle.token.specs.Table.{places, token_at, tokens_of}
 use Rattle.token.specs.declared.Token.{Token}
@@ -15,24 +14,20 @@ falls earlier t = stands_before t.dst_line t.dst_col earlier.dst_line earlier.ds
 
 -- of the tokens behind t, the first of which is the i-th: the first that stands before the one before it
 unfoldable pub fall_from : ℕ → Token → List Token → Option ℕ
-fall_from i t [] = none
-fall_from i t (u ∷ us) = pick (falls t u) (some i) (fall_from (i + 1) u us)
+fall_from i t [] = None
+fall_from i t (u ∷ us) = pick (falls t u) (Some i) (fall_from (i + 1) u us)
 
 abbrev pub fall_in : List Token → Option ℕ
-fall_in [] = none
+fall_in [] = None
 fall_in (t ∷ ts) = fall_from 1 t ts
 
 -- the index of a table's first token that stands before the one before it
 abbrev pub first_fall : List ℕ → Option ℕ
 first_fall table = fall_in (tokens_of table)
 
-abbrev pub is_nowhere : Option ℕ → Bool
-is_nowhere none = true
-is_nowhere (some i) = false
-
 -- sorted: never falling by line, then column
 abbrev pub sorted : List ℕ → Bool
-sorted table = is_nowhere (first_fall table)
+sorted table = is_none (first_fall table)
 
 -- ---- what the index says of all tokens, and not of neighbours alone
 
@@ -48,8 +43,8 @@ pub record FirstFall (table : List ℕ) (k : ℕ) : Type 0 where
   pub at_it : (i : ℕ) → i + 1 ≡ k → falls (token_at table i) (token_at table k) ≡ true
 
 abbrev pub FallSays : List ℕ → Option ℕ → Type 0
-FallSays table none = NeverFalls table (places (length table))
-FallSays table (some k) = FirstFall table k
+FallSays table None = NeverFalls table (places (length table))
+FallSays table (Some k) = FirstFall table k
 
 abbrev pub SortedSays : Type 0
 SortedSays = (table : List ℕ) → FallSays table (first_fall table)

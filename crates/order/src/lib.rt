@@ -4,7 +4,7 @@
 ghost use Rattle.std.specs.Prelude.{◌≡◌, ◌*◌, ◌<◌, ◌≤◌, length};
 ghost use Rattle.token.specs.Table.{places};
 ghost use Rattle.order.specs.Order.{sorted, first_fall};
-ghost use Rattle.order.specs.Keys.{key_of, key_at, Rise, Settles, FallsBehind, fall_or};
+ghost use Rattle.order.specs.Keys.{key_of, key_at, Rise, Settles, FallsBehind};
 
 // A position as one number, in the order of line, then column.
 pub fn key_of(line: u32, col: u32) -> u64
@@ -32,13 +32,12 @@ fn parts_rise(table: &[u32], part: usize) -> bool
     let mut b = key_at(table, part);
     let mut c = key_at(table, 2 * part);
     let mut d = key_at(table, 3 * part);
-    let mut i: usize = 0;
-    while i < part {
-        i += 1;
-        let p = key_at(table, i);
-        let q = key_at(table, part + i);
-        let r = key_at(table, 2 * part + i);
-        let s = key_at(table, 3 * part + i);
+    for i in 0..part {
+        let next = i + 1;
+        let p = key_at(table, next);
+        let q = key_at(table, part + next);
+        let r = key_at(table, 2 * part + next);
+        let s = key_at(table, 3 * part + next);
         if p < a {
             return false;
         }
@@ -59,22 +58,21 @@ fn parts_rise(table: &[u32], part: usize) -> bool
     true
 }
 
-// Whether no token falls behind `from`, up to `to`.
-fn rises(table: &[u32], from: usize, to: usize) -> bool
+// Behind `from` and up to `to`: the first token that stands before the one before it.
+fn fall_behind(table: &[u32], from: usize, to: usize) -> Option<usize>
     requires { (from ≤ to) × (to < places (length table.now)) }
-    ensures { Settles (Rise table.now from to) result }
+    ensures { FallsBehind table.now from to result }
 {
-    let mut last = key_at(table, from);
-    let mut i = from;
-    while i < to {
-        i += 1;
-        let p = key_at(table, i);
-        if p < last {
-            return false;
+    let mut before = key_at(table, from);
+    for i in from..to {
+        let at = i + 1;
+        let key = key_at(table, at);
+        if key < before {
+            return Some(at);
         }
-        last = p;
+        before = key;
     }
-    true
+    None
 }
 
 // Whether no token of the table stands before the one before it, by line, then column.
@@ -87,38 +85,15 @@ pub fn is_sorted(table: &[u32]) -> bool
     }
     let last = tokens - 1;
     let part = last / 4;
-    let rest = 4 * part;
-    if parts_rise(table, part) {
-        return rises(table, rest, last);
-    }
-    false
+    parts_rise(table, part) && fall_behind(table, 4 * part, last).is_none()
 }
 
-// Behind `from` and up to `to`: the first token that stands before the one before it, or one past `to` where none does.
-fn fall_behind(table: &[u32], from: usize, to: usize) -> usize
-    requires { (from ≤ to) × (to < places (length table.now)) }
-    ensures { FallsBehind table.now from to result }
+// The index of the first token that stands before the one before it.
+pub fn first_fall(table: &[u32]) -> Option<usize>
+    ensures { result ≡ first_fall table.now }
 {
-    let mut before = key_at(table, from);
-    let mut at = from;
-    while at < to {
-        at += 1;
-        let key = key_at(table, at);
-        if key < before {
-            return at;
-        }
-        before = key;
-    }
-    to + 1
-}
-
-// The index of the first token that stands before the one before it, or the number of tokens where the table is sorted.
-pub fn first_fall(table: &[u32]) -> usize
-    ensures { result ≡ fall_or (places (length table.now)) (first_fall table.now) }
-{
-    let tokens = token::places_in(table.len());
     if is_sorted(table) {
-        return tokens;
+        return None;
     }
-    fall_behind(table, 0, tokens - 1)
+    fall_behind(table, 0, token::places_in(table.len()) - 1)
 }

@@ -4,7 +4,6 @@ use Rattle.std.specs.Prelude.{◌≡◌, ℕ, ◌<◌, Bool, true, List, length}
 use Rattle.token.specs.Table.{places}
 use Rattle.order.specs.Keys.{Rising}
 use Rattle.lookup.specs.Lookup.{lookup_of}
-use Rattle.lookup.specs.Parts.{index_of}
 use Rattle.seek.specs.declared.Sought.{Sought}
 
 -- a sorted table, and one of its tokens
@@ -14,5 +13,5 @@ pub record Halvable (table : List ℕ) (place : ℕ) : Type 0 where
 
 -- what is found at a position, and that the next may be sought from there
 pub record Seeks (table : List ℕ) (halves : Bool) (line col : ℕ) (r : Sought) : Type 0 where
-  pub found : r.at ≡ index_of (lookup_of table line col)
+  pub found : r.at ≡ lookup_of table line col
   pub next : halves ≡ true → Halvable table r.place

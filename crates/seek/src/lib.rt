@@ -7,8 +7,6 @@ ghost use Rattle.order.specs.Keys.{Rising};
 ghost use Rattle.halving.specs.Within.{Within};
 ghost use Rattle.seek.specs.Seek.{Halvable, Seeks};
 
-use token::NONE;
-
 // How many tokens from the last place on are near.
 const NEAR: usize = 16;
 
@@ -19,10 +17,10 @@ struct Part {
     size: usize,
 }
 
-// The index of the token that is found, NONE where there is none, and the place that the next position is sought from.
+// The index of the token that is found, and the place that the next position is sought from.
 #[derive(Clone, Copy)]
 pub struct Sought {
-    pub at: u32,
+    pub at: Option<u32>,
     pub place: usize,
 }
 
@@ -43,13 +41,11 @@ fn part_from(table: &[u32], from: usize, asked: u64) -> Part
                 size: NEAR,
             };
         }
-    } else {
-        if low <= asked {
-            return Part {
-                base: from,
-                size: left,
-            };
-        }
+    } else if low <= asked {
+        return Part {
+            base: from,
+            size: left,
+        };
     }
     Part {
         base: 0,
@@ -94,9 +90,8 @@ pub fn seek(table: &[u32], halves: bool, place: usize, line: u32, col: u32) -> S
             place: last,
         };
     }
-    let tokens = token::places_in(table.len());
     Sought {
-        at: lookup::best_in(table, 0, tokens, line, col, NONE),
+        at: lookup::look_in(table, line, col),
         place,
     }
 }

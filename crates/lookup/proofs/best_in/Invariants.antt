@@ -1,10 +1,6 @@
 -- `lookup::best_in` meets its contract, by the laws of `Scan`. Assumes nothing.
 use Rattle.lookup.proofs.Scan.{Scanned}
-use Prim.Native.Nat.{◌-◌}
 use Rattle.lookup.proofs.best_in.Given as goal
 
 abbrev pub invariant-loop-i : goal.invariant-loop-i
-invariant-loop-i l = Scanned l.table l.line l.col l.to l.best l.least l.i
-
-abbrev pub decreases-loop-i : goal.decreases-loop-i
-decreases-loop-i l = l.to - l.i
+invariant-loop-i l = Scanned l.table l.line l.col l.best l.least l.i

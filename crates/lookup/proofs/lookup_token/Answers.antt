@@ -3,11 +3,5 @@ use mathlib.Core.Path.{sym, ◌∙◌}
 use Rattle.lookup.proofs.Best.{looked}
 use Rattle.lookup.proofs.lookup_token.Goals as goal
 
-pub returns-then-bad_table : goal.returns-then-bad_table
-returns-then-bad_table c = sym c.bad_table.ensures ∙ c.if-bad_table.true
-
-pub look_in-requires : goal.look_in-requires
-look_in-requires c = sym c.bad_table.ensures ∙ c.if-bad_table.false
-
 pub returns : goal.returns
 returns c = looked _ _ _ (sym c.bad_table.ensures ∙ c.if-bad_table.false) _ c.look_in.ensures

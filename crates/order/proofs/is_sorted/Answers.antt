@@ -9,7 +9,7 @@ pub returns-then-tokens-eq0 : goal.returns-then-tokens-eq0
 returns-then-tokens-eq0 c = empty _ (sym c.places_in-tokens.ensures ∙ c.if-tokens-eq0.true)
 
 pub returns-then-parts_rise : goal.returns-then-parts_rise
-returns-then-parts_rise c = by_rest _ (narrow _ (λ i. omega (arith, c.shared_slice_known-1.given i))) _ (omega (arith, c.places_in-tokens.ensures, c.if-tokens-eq0.false)) _ _ c.parts_rise.ensures c.if-parts_rise.true _ c.rises.ensures
+returns-then-parts_rise c = by_rest _ (narrow _ (λ i. omega (arith, c.type_inv.table i))) (c.places_in-tokens.result - 1) (omega (arith, c.places_in-tokens.ensures, c.if-tokens-eq0.false)) _ _ (omega arith) c.parts_rise.ensures c.if-parts_rise.true _ c.fall_behind.ensures _ c.is_none.ensures
 
-pub returns : goal.returns
-returns c = by_parts _ (narrow _ (λ i. omega (arith, c.shared_slice_known-1.given i))) (c.places_in-tokens.result - 1) (omega (arith, c.places_in-tokens.ensures, c.if-tokens-eq0.false)) _ _ (omega arith) c.parts_rise.ensures c.if-parts_rise.false
+pub returns-else-parts_rise : goal.returns-else-parts_rise
+returns-else-parts_rise c = c.if-parts_rise.false ∙ by_parts _ (narrow _ (λ i. omega (arith, c.type_inv.table i))) (c.places_in-tokens.result - 1) (omega (arith, c.places_in-tokens.ensures, c.if-tokens-eq0.false)) _ _ (omega arith) c.parts_rise.ensures c.if-parts_rise.false

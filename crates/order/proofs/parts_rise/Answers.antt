@@ -3,56 +3,8 @@ use native.Mathlib.Omega.{arith}
 use Rattle.order.proofs.Rise.{begin, one_falls, two_falls, three_falls, four_falls, turn, all_rise, says_yes, says_no}
 use Rattle.order.proofs.parts_rise.Goals as goal
 
-pub key_at-a-requires : goal.key_at-a-requires
-key_at-a-requires c = omega (arith, c.requires)
-
-pub key_at-b-requires : goal.key_at-b-requires
-key_at-b-requires c = omega (arith, c.requires)
-
-pub overflow_mul-part : goal.overflow_mul-part
-overflow_mul-part c = omega (arith, c.requires, c.well_formed)
-
-pub key_at-c-requires : goal.key_at-c-requires
-key_at-c-requires c = omega (arith, c.requires)
-
-pub overflow_mul-part-2 : goal.overflow_mul-part-2
-overflow_mul-part-2 c = omega (arith, c.requires, c.well_formed)
-
-pub key_at-d-requires : goal.key_at-d-requires
-key_at-d-requires c = omega (arith, c.requires)
-
 pub loop-i-init : goal.loop-i-init
 loop-i-init c = begin _ _ _ _ _ _ c.key_at-a.ensures c.key_at-b.ensures c.key_at-c.ensures c.key_at-d.ensures
-
-pub overflow_add-i : goal.overflow_add-i
-overflow_add-i c = omega (arith, c.loop-i-test.true, c.requires, c.well_formed)
-
-pub key_at-p-requires : goal.key_at-p-requires
-key_at-p-requires c = omega (arith, c.loop-i-test.true, c.requires, c.well_formed)
-
-pub overflow_add-part : goal.overflow_add-part
-overflow_add-part c = omega (arith, c.loop-i-test.true, c.requires, c.well_formed)
-
-pub key_at-q-requires : goal.key_at-q-requires
-key_at-q-requires c = omega (arith, c.loop-i-test.true, c.requires, c.well_formed)
-
-pub overflow_mul-part-in-loop-i : goal.overflow_mul-part-in-loop-i
-overflow_mul-part-in-loop-i c = omega (arith, c.loop-i-test.true, c.requires, c.well_formed)
-
-pub overflow_add-part-in-loop-i : goal.overflow_add-part-in-loop-i
-overflow_add-part-in-loop-i c = omega (arith, c.loop-i-test.true, c.requires, c.well_formed)
-
-pub key_at-r-requires : goal.key_at-r-requires
-key_at-r-requires c = omega (arith, c.loop-i-test.true, c.requires, c.well_formed)
-
-pub overflow_mul-part-in-loop-i-2 : goal.overflow_mul-part-in-loop-i-2
-overflow_mul-part-in-loop-i-2 c = omega (arith, c.loop-i-test.true, c.requires, c.well_formed)
-
-pub overflow_add-part-in-loop-i-2 : goal.overflow_add-part-in-loop-i-2
-overflow_add-part-in-loop-i-2 c = omega (arith, c.loop-i-test.true, c.requires, c.well_formed)
-
-pub key_at-s-requires : goal.key_at-s-requires
-key_at-s-requires c = omega (arith, c.loop-i-test.true, c.requires, c.well_formed)
 
 pub returns-then-p-a : goal.returns-then-p-a
 returns-then-p-a c = says_no (one_falls _ _ _ _ _ _ _ c.loop-i.invariant c.loop-i-test.true _ _ _ _ c.key_at-p.ensures c.key_at-q.ensures c.key_at-r.ensures c.key_at-s.ensures c.if-p-a.true)
@@ -65,9 +17,6 @@ returns-then-r-c c = says_no (three_falls _ _ _ _ _ _ _ c.loop-i.invariant c.loo
 
 pub returns-then-s-d : goal.returns-then-s-d
 returns-then-s-d c = says_no (four_falls _ _ _ _ _ _ _ c.loop-i.invariant c.loop-i-test.true _ _ _ _ c.key_at-p.ensures c.key_at-q.ensures c.key_at-r.ensures c.key_at-s.ensures c.if-s-d.true)
-
-pub loop-i-smaller : goal.loop-i-smaller
-loop-i-smaller c = omega (arith, c.loop-i-test.true)
 
 pub loop-i-preserved : goal.loop-i-preserved
 loop-i-preserved c = turn _ _ _ _ _ _ _ c.loop-i.invariant c.loop-i-test.true _ _ _ _ c.key_at-p.ensures c.key_at-q.ensures c.key_at-r.ensures c.key_at-s.ensures (omega arith) (omega arith) (omega arith) (omega arith)

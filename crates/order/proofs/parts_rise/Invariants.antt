@@ -1,10 +1,6 @@
 -- `order::parts_rise` meets its contract, by the laws of `Rise`. Assumes nothing.
-use Prim.Native.Nat.{◌-◌}
 use Rattle.order.proofs.Rise.{Sides}
 use Rattle.order.proofs.parts_rise.Given as goal
 
 abbrev pub invariant-loop-i : goal.invariant-loop-i
 invariant-loop-i l = Sides l.table l.part l.i l.a l.b l.c l.d
-
-abbrev pub decreases-loop-i : goal.decreases-loop-i
-decreases-loop-i l = l.part - l.i

@@ -2,16 +2,14 @@
 use mathlib.Core.Path.{◌≡◌, refl, ap, sym, ◌∙◌, subst}
 use mathlib.Core.Bool.{true, false}
 use mathlib.Core.List.{List, [], ◌∷◌, ◌++◌, append_assoc, append-nil}
-use mathlib.Core.Option.{Option, none, some}
+use Rattle.std.specs.Prelude.{Option, None, Some, Ok, Err}
 use Prim.Native.Nat.{ℕ, zero, suc, ◌+◌, ◌≤◌, ◌<◌}
 use native.Mathlib.Omega.{arith}
 use lib.Dec.{ltb}
 use lib.ListN.{length, take, drop, get_or}
 use lib.Seq.{take_at}
-use borrow.Author.Tests.{eq-eqb, ne_eqb}
 use Rattle.list.specs.Memory.{onto}
 use Rattle.list.proofs.Pick.{pick_ind}
-use Rattle.code.specs.Code.{code_of}
 use Rattle.code.specs.declared.Code.{Code}
 use Rattle.token.specs.Table.{is_none, places, token_at, tokens_from, tokens_of, flat, over}
 use Rattle.token.specs.declared.Token.{Token}
@@ -22,10 +20,10 @@ use Rattle.name_ids.specs.NameIds.{Named, first_name, first_added, among_inner, 
 use Rattle.name_ids.specs.Answers.{Kept}
 use Rattle.name_ids.proofs.Grow.{kept_none, kept_few}
 use Rattle.name_ids.proofs.Known.{Known, named_known}
-use Rattle.compose.specs.declared.Composed.{Composed}
+use Rattle.compose.specs.Steps.{refusal_of}
 use Rattle.compose.specs.Compose.{Made, mapped_to, found, made_of, composed_from, Maps, result_of, composed, Composes}
 use Rattle.compose.proofs.Made.{kept_made, kept_all}
-use Rattle.compose.proofs.Tests.{Opens, opens, refuses}
+use Rattle.compose.proofs.Tests.{Opens, opens, ok_is}
 
 -- ---- the added names: below the outer count, no two of equal bytes, none with the bytes of an inner name
 pub added_apart : (m : Maps) → Kept m.inner_names m.outer_names (result_of m).added
@@ -55,9 +53,9 @@ module _ (inner outer : NameList) (table : List ℕ) where
       (λ e. same_list ids)
     where
       go : (o q : Option ℕ) → first_added outer (name_at outer id) 0 ids ≡ q → Extends ids (among_inner inner outer ids id o).added
-      go (some k) q f = same_list ids
-      go none (some j) f = rw f (same_list ids)
-      go none none f = rw f (record { rest = id ∷ []; is = refl })
+      go (Some k) q f = same_list ids
+      go None (Some j) f = rw f (same_list ids)
+      go None None f = rw f (record { rest = id ∷ []; is = refl })
 
   extends_made : (ids : List ℕ) (t : Token) → Extends ids (made_of inner outer table ids t).added
   unfolding made_of
@@ -68,8 +66,8 @@ module _ (inner outer : NameList) (table : List ℕ) where
       Holds m = Extends ids m.added
 
       go : (o : Option ℕ) → Holds (found inner outer table ids t o)
-      go none = same_list ids
-      go (some i) =
+      go None = same_list ids
+      go (Some i) =
           pick_ind Holds (is_none (token_at table i).source_id) (λ e. same_list ids)
           (λ e. pick_ind (λ (n : Named). Extends ids n.added) (is_none (token_at table i).name_id)
           (λ f. extends_named ids t.name_id) (λ f. same_list ids))
@@ -86,7 +84,7 @@ module _ (inner outer : NameList) (table : List ℕ) where
 pub record OuterName (outer : NameList) (table : List ℕ) (t : Token) : Type 0 where
   pub at : ℕ
   pub sourced : is_none t.source_id ≡ false
-  pub looked : lookup_of table t.src_line t.src_col ≡ some at
+  pub looked : lookup_of table t.src_line t.src_col ≡ Some at
   pub mapped : is_none (token_at table at).source_id ≡ false
   pub unnamed : is_none (token_at table at).name_id ≡ true
   pub inside : t.name_id < count outer
@@ -112,8 +110,8 @@ module _ (inner outer : NameList) (table : List ℕ) (first : sound inner ≡ tr
       Holds m = Placed t m.token
 
       go : (o : Option ℕ) → Holds (found inner outer table ids t o)
-      go none = record { line = refl; col = refl }
-      go (some i) =
+      go None = record { line = refl; col = refl }
+      go (Some i) =
           pick_ind Holds (is_none (token_at table i).source_id) (λ e. record { line = refl; col = refl }) (λ e. record { line = refl; col = refl })
 
   made_named : (ids : List ℕ) (t : Token) (n : OuterName outer table t)
@@ -177,46 +175,39 @@ each_of m first second i d h =
     = read_at m.outer 0 (places (length m.outer)) i d h ∙ ap (token_at m.outer) z in
     rw e at (each m.inner_names m.outer_names m.inner first second [] (tokens_of m.outer) (kept_none m.inner_names m.outer_names) i d (omega (arith, n)))
 
--- ---- the same of what is lent
-module _ (m : Maps) (result added : List ℕ) (r : Composed) (result' added' : List ℕ) (c : Composes m result added r result' added')
-    (done : r.code ≡ Code.Done) where
-  abbrev all : Composed
-  all = composed m (length result) (length added)
-
-  is_done : code_of all.code ≡ 0
-  is_done = ap code_of (ap (λ (x : Composed). x.code) (sym c.says) ∙ done)
-
-  opened : Opens m (length result) (length added) all
-  opened = opens m (length result) (length added) is_done
+-- ---- the same of what is lent, once n names were added
+module _ (m : Maps) (result added : List ℕ) (n : ℕ) (result' added' : List ℕ) (c : Composes m result added (Ok n) result' added') where
+  opened : Opens m (length result) (length added)
+  opened = opens m (length result) (length added) (ap refusal_of c.says)
 
   wrote_is : result' ≡ over (result_of m).tokens result
-  wrote_is = c.wrote ∙ rw (eq-eqb (code_of all.code) 0 is_done)
+  wrote_is = c.wrote ∙ rw opened.is
 
   listed_is : added' ≡ onto (result_of m).added added
-  listed_is = c.listed ∙ rw (eq-eqb (code_of all.code) 0 is_done)
+  listed_is = c.listed ∙ rw opened.is
+
+  counted : n ≡ length (result_of m).added
+  counted = ok_is n (length (result_of m).added) (c.says ∙ opened.is)
 
   -- the added list: the first entries, as many as were counted
-  pub added_is : take r.added added' ≡ (result_of m).added
+  pub added_is : take n added' ≡ (result_of m).added
   unfolding onto
-  added_is =
-      let n : r.added ≡ length (result_of m).added = ap (λ (x : Composed). x.added) (c.says ∙ opened.is) in
-      ap (take r.added) listed_is ∙ take_at (result_of m).added (drop (length (result_of m).added) added) r.added (sym n)
+  added_is = ap (take n) listed_is ∙ take_at (result_of m).added (drop (length (result_of m).added) added) n (sym counted)
 
-  pub listed_apart : Kept m.inner_names m.outer_names (take r.added added')
+  pub listed_apart : Kept m.inner_names m.outer_names (take n added')
   listed_apart = rw added_is (added_apart m)
 
   pub written_of : (i : ℕ) → i < places (length m.outer)
-      → Of m.inner_names m.outer_names m.inner (take r.added added') (token_at m.outer i) (token_at result' i)
+      → Of m.inner_names m.outer_names m.inner (take n added') (token_at m.outer i) (token_at result' i)
   written_of i h =
       let d : Token = token_at result' i in
       let e : token_at result' i ≡ get_or (result_of m).tokens i d
       = ap (λ (l : List ℕ). token_at l i) wrote_is ∙ over_at (result_of m).tokens result i d (omega (arith, as_many m)) in
       rw (added_is, e) (each_of m opened.ready.first opened.ready.second i d h)
 
--- ---- a refusal writes nothing, and counts no name
-pub kept_whole : (m : Maps) (result added : List ℕ) (r : Composed) (result' added' : List ℕ) → Composes m result added r result' added'
-    → (code_of r.code ≡ 0 → ⊥) → (r.added ≡ 0) × ((result' ≡ result) × (added' ≡ added))
-kept_whole m result added r result' added' c n =
-    let k : code_of (composed m (length result) (length added)).code ≡ 0 → ⊥ = rw c.says at n in
-    let z = ne_eqb (code_of (composed m (length result) (length added)).code) 0 k in
-    (ap (λ (x : Composed). x.added) (c.says ∙ sym (refuses m (length result) (length added) k)), (c.wrote ∙ rw z, c.listed ∙ rw z))
+-- ---- a refusal writes nothing
+pub kept_whole : (m : Maps) (result added : List ℕ) (code : Code) (result' added' : List ℕ) → Composes m result added (Err code) result' added'
+    → (result' ≡ result) × (added' ≡ added)
+kept_whole m result added code result' added' c =
+    let x : composed m (length result) (length added) ≡ Err code = sym c.says in
+    (c.wrote ∙ rw x, c.listed ∙ rw x)

@@ -1,6 +1,6 @@
 -- The added names stay apart, token after token. Assumes nothing.
 use mathlib.Core.List.{List, [], ◌∷◌}
-use mathlib.Core.Option.{Option, none, some}
+use Rattle.std.specs.Prelude.{Option, None, Some}
 use Prim.Native.Nat.{ℕ}
 use Rattle.list.proofs.Pick.{pick_ind}
 use Rattle.token.specs.Table.{is_none, token_at}
@@ -22,8 +22,8 @@ module _ (inner outer : NameList) (table : List ℕ) where
       Holds m = Kept inner outer m.added
 
       go : (o : Option ℕ) → Holds (found inner outer table ids t o)
-      go none = k
-      go (some i) =
+      go None = k
+      go (Some i) =
           pick_ind Holds (is_none (token_at table i).source_id) (λ e. k)
           (λ e. pick_ind (λ (n : Named). Kept inner outer n.added) (is_none (token_at table i).name_id)
           (λ f. kept_named inner outer ids t.name_id k) (λ f. k))

@@ -1,32 +1,63 @@
 // Composes an outer map with the map of its input.
 #![tactic(auto)]
 
-ghost use Rattle.std.specs.Prelude.{◌≡◌, true, false, [], ◌<◌, ltb, length};
-ghost use Rattle.list.specs.Pick.{both};
+ghost use Rattle.std.specs.Prelude.{◌≡◌, true, false, [], List, ℕ, ◌<◌, length, take};
 ghost use Rattle.token.specs.Table.{bad_table, tokens_of};
 ghost use Rattle.seek.specs.Seek.{Halvable};
-ghost use Rattle.names.specs.Names.{name_list, sound};
-ghost use Rattle.name_ids.specs.Answers.{Searchable};
-ghost use Rattle.compose.specs.Compose.{composed_from, composed, Composes, ComposesWith, maps_of};
-ghost use Rattle.compose.specs.Steps.{unmapped_by, mapped_by, finished_by, HalfMade, Keeps, IndexedIf, RoomIf, Told, Askable, Asked, Ready, Written, Composing};
+ghost use Rattle.names.specs.Names.{NameList, list_of};
+ghost use Rattle.name_ids.specs.NameIds.{outer_named};
+ghost use Rattle.name_ids.specs.Answers.{named_by, Searchable};
+ghost use Rattle.name_index.specs.Index.{Indexed};
+ghost use Rattle.compose.specs.Compose.{composed_from, composed, Composes, ComposesWith, maps};
+ghost use Rattle.compose.specs.Steps.{unmapped_by, mapped_by, made_by, refusal_of, Leads, Askable, Lists, Ready, Written};
 
 use code::Code;
 use name_ids::NameId;
+use names::{Joined, Names};
 use token::Token;
 
-// The code, and how many outer names were added; 0 for a refusal.
+// A map as composing reads it: its table, and its names.
 #[derive(Clone, Copy)]
-pub struct Composed {
-    pub code: Code,
-    pub added: usize,
+pub struct Map<'a> {
+    pub table: &'a [u32],
+    pub names: Names<'a>,
 }
 
-// A token of the result: whether it asks for its outer name, which it has not yet, and the place that the next lookup begins at.
-#[derive(Clone, Copy)]
-struct Half {
-    token: Token,
-    asks: bool,
-    place: usize,
+// A way to find the ids of outer names. What it holds goes by the names that are added so far.
+trait Finder {
+    ghost Holds: { Self → NameList → NameList → List ℕ → Type 0 };
+
+    fn outer_name_id(&mut self, names: Joined<'_>, id: u32) -> NameId
+        requires searchable { Searchable (list_of names.inner) (list_of names.outer) names.added.now }
+        requires holds { Holds self.old (list_of names.inner) (list_of names.outer) names.added.now }
+        ensures is { named_by names.entry.added.now id result ≡ outer_named (list_of names.entry.inner) (list_of names.entry.outer) names.entry.added.now id }
+        ensures holds { Holds self.new (list_of names.entry.inner) (list_of names.entry.outer) (outer_named (list_of names.entry.inner) (list_of names.entry.outer) names.entry.added.now id).added };
+}
+
+// By searching the names.
+#[derive(Drop)]
+struct Search;
+
+impl Finder for Search {
+    ghost Holds = { λ _ _ _ _. Unit };
+
+    fn outer_name_id(&mut self, names: Joined<'_>, id: u32) -> NameId {
+        name_ids::outer_name_id(names, id)
+    }
+}
+
+// By the index in lent working memory.
+#[derive(Drop)]
+struct Index<'a> {
+    work: &'a mut [u32],
+}
+
+impl Finder for Index<'_> {
+    ghost Holds = { λ f inner outer ids. Indexed inner outer ids f.work.now };
+
+    fn outer_name_id(&mut self, names: Joined<'_>, id: u32) -> NameId {
+        name_index::indexed_name_id(names, self.work, id)
+    }
 }
 
 // How many names were added, and the last outer name id that was asked for, with the id that it was given.
@@ -37,17 +68,54 @@ struct Known {
     given: u32,
 }
 
+impl Known {
+    // The id that an outer name is given; a new one is stored behind the others that were added. The last one is remembered.
+    fn ask<F: Finder>(
+        &mut self,
+        inner: Names<'_>,
+        outer: Names<'_>,
+        added: &mut [u32],
+        finder: &mut F,
+        id: u32,
+    ) -> u32
+        requires askable { Askable (list_of inner) (list_of outer) added.old self.old }
+        requires holds { F.Holds finder.old (list_of inner) (list_of outer) (take self.old.count added.old) }
+        ensures gives { result ≡ (outer_named (list_of inner.entry) (list_of outer.entry) (take self.old.count added.old) id).id }
+        ensures lists { Lists (list_of inner.entry) (list_of outer.entry) (outer_named (list_of inner.entry) (list_of outer.entry) (take self.old.count added.old) id).added added.old self.new added.new }
+        ensures holds { F.Holds finder.new (list_of inner.entry) (list_of outer.entry) (outer_named (list_of inner.entry) (list_of outer.entry) (take self.old.count added.old) id).added }
+    {
+        if id == self.last {
+            return self.given;
+        }
+        let count = self.count;
+        let names = Joined {
+            inner,
+            outer,
+            added: &added[..count],
+        };
+        let given = match finder.outer_name_id(names, id) {
+            NameId::Found(given) => given,
+            NameId::New(given) => {
+                added[count] = id;
+                self.count = count + 1;
+                given
+            }
+        };
+        self.last = id;
+        self.given = given;
+        given
+    }
+}
+
 fn unmapped_token(t: Token) -> Token
     ensures { result ≡ unmapped_by t }
 {
     Token {
-        dst_line: t.dst_line,
-        dst_col: t.dst_col,
         src_line: 0,
         src_col: 0,
         source_id: token::NONE,
         name_id: token::NONE,
-        segment: t.segment,
+        ..t
     }
 }
 
@@ -58,369 +126,149 @@ fn mapped_to(t: Token, o: Token) -> Token
     Token {
         dst_line: t.dst_line,
         dst_col: t.dst_col,
-        src_line: o.src_line,
-        src_col: o.src_col,
-        source_id: o.source_id,
-        name_id: o.name_id,
         segment: t.segment,
+        ..o
     }
 }
 
-// One outer token over the inner table, all but its outer name.
-fn half_made(t: Token, inner: &[u32], halves: bool, place: usize) -> Half
-    requires { (bad_table (length inner.now) ≡ false) × (halves ≡ true → Halvable inner.now place) }
-    ensures { HalfMade inner.now halves t result }
+// The inner token that an outer one leads to, if it has a source. It is sought from `place`, which then is where the next one is.
+fn origin(inner: &[u32], halves: bool, place: &mut usize, t: Token) -> Option<Token>
+    requires { (bad_table (length inner.now) ≡ false) × (halves ≡ true → Halvable inner.now place.old) }
+    ensures { Leads inner.now halves t result place.new }
 {
     if t.source_id == token::NONE {
-        return Half {
-            token: unmapped_token(t),
-            asks: false,
-            place,
-        };
+        return None;
     }
-    let s = seek::seek(inner, halves, place, t.src_line, t.src_col);
-    if s.at == token::NONE {
-        return Half {
-            token: unmapped_token(t),
-            asks: false,
-            place: s.place,
-        };
-    }
-    let o = token::token_at(inner, s.at as usize);
+    let s = seek::seek(inner, halves, *place, t.src_line, t.src_col);
+    *place = s.place;
+    let o = token::token_at(inner, s.at? as usize);
     if o.source_id == token::NONE {
-        return Half {
-            token: unmapped_token(t),
-            asks: false,
-            place: s.place,
-        };
+        return None;
     }
-    Half {
-        token: mapped_to(t, o),
-        asks: o.name_id == token::NONE,
-        place: s.place,
-    }
+    Some(o)
 }
 
-// With the outer name's id where it asks for it.
-fn finished(h: Half, given: u32) -> Token
-    ensures { result ≡ finished_by h given }
-{
-    let mut t = h.token;
-    if !h.asks {
-        return t;
-    }
-    t.name_id = given;
-    t
-}
-
-// Stores the id of a new name, and counts it.
-fn keep(added: &mut [u32], at: usize, adds: bool, id: u32) -> usize
-    requires { adds ≡ true → at < length added.old }
-    ensures { Keeps adds at id added.old result added.new }
-{
-    if adds {
-        added[at] = id;
-        return at + 1;
-    }
-    at
-}
-
-// Makes the index, where there is one.
-fn make_index(
-    outer_names: &[u8],
-    outer_ends: &[usize],
-    inner_names: &[u8],
-    inner_ends: &[usize],
-    indexed: bool,
-    work: &mut [u32],
-)
-    requires { ((sound (name_list inner_names.now inner_ends.now) ≡ true) × (sound (name_list outer_names.now outer_ends.now) ≡ true)) × RoomIf indexed (name_list inner_names.now inner_ends.now) (name_list outer_names.now outer_ends.now) (length work.old) }
-    ensures { IndexedIf indexed (name_list inner_names.now inner_ends.now) (name_list outer_names.now outer_ends.now) [] work.new }
-{
-    if !indexed {
-        return;
-    }
-    name_index::index_names(outer_names, outer_ends, inner_names, inner_ends, work);
-}
-
-// The id of an outer name: by the index in the working memory, or by searching the names.
-fn outer_id(
-    outer_names: &[u8],
-    outer_ends: &[usize],
-    inner_names: &[u8],
-    inner_ends: &[usize],
-    ids: &[u32],
-    indexed: bool,
-    work: &mut [u32],
-    id: u32,
-) -> NameId
-    requires { Searchable (name_list inner_names.now inner_ends.now) (name_list outer_names.now outer_ends.now) ids.now × IndexedIf indexed (name_list inner_names.now inner_ends.now) (name_list outer_names.now outer_ends.now) ids.now work.old }
-    ensures { Told (name_list inner_names.now inner_ends.now) (name_list outer_names.now outer_ends.now) ids.now indexed id result work.new }
-{
-    if indexed {
-        return name_index::indexed_name_id(
-            outer_names,
-            outer_ends,
-            inner_names,
-            inner_ends,
-            ids,
-            work,
-            id,
-        );
-    }
-    name_ids::outer_name_id(outer_names, outer_ends, inner_names, inner_ends, ids, id)
-}
-
-// What is known once an outer name was asked for, where one is: the last one is remembered.
-fn name_known(
-    outer_names: &[u8],
-    outer_ends: &[usize],
-    inner_names: &[u8],
-    inner_ends: &[usize],
+// What an outer token becomes, over the inner token that it leads to: its own name is asked for where that one has none.
+fn made_token<F: Finder>(
+    t: Token,
+    found: Option<Token>,
+    inner: Names<'_>,
+    outer: Names<'_>,
     added: &mut [u32],
-    indexed: bool,
-    work: &mut [u32],
-    known: Known,
-    asks: bool,
-    id: u32,
-) -> Known
-    requires { Askable (name_list inner_names.now inner_ends.now) (name_list outer_names.now outer_ends.now) added.old indexed known work.old }
-    ensures { Asked (name_list inner_names.now inner_ends.now) (name_list outer_names.now outer_ends.now) added.old known asks id indexed result added.new work.new }
+    known: &mut Known,
+    finder: &mut F,
+) -> Token
+    requires askable { Askable (list_of inner) (list_of outer) added.old known.old }
+    requires holds { F.Holds finder.old (list_of inner) (list_of outer) (take known.old.count added.old) }
+    ensures makes { result ≡ (made_by (list_of inner.entry) (list_of outer.entry) (take known.old.count added.old) t found).token }
+    ensures lists { Lists (list_of inner.entry) (list_of outer.entry) (made_by (list_of inner.entry) (list_of outer.entry) (take known.old.count added.old) t found).added added.old known.new added.new }
+    ensures holds { F.Holds finder.new (list_of inner.entry) (list_of outer.entry) (made_by (list_of inner.entry) (list_of outer.entry) (take known.old.count added.old) t found).added }
 {
-    if !asks {
-        return known;
+    let Some(o) = found else {
+        return unmapped_token(t);
+    };
+    let made = mapped_to(t, o);
+    if o.name_id != token::NONE {
+        return made;
     }
-    if id == known.last {
-        return known;
-    }
-    let count = known.count;
-    let n = outer_id(
-        outer_names,
-        outer_ends,
-        inner_names,
-        inner_ends,
-        &added[..count],
-        indexed,
-        work,
-        id,
-    );
-    Known {
-        count: keep(added, count, n.adds, id),
-        last: id,
-        given: n.id,
-    }
+    let name_id = known.ask(inner, outer, added, finder, t.name_id);
+    Token { name_id, ..made }
 }
 
-// The result's tokens and the added names, where nothing is refused.
-fn write_tokens(
-    outer: &[u32],
-    outer_names: &[u8],
-    outer_ends: &[usize],
-    inner: &[u32],
-    inner_names: &[u8],
-    inner_ends: &[usize],
+// The result's tokens and the added names, where nothing is refused; how many names were added.
+fn write_tokens<F: Finder>(
+    outer: Map<'_>,
+    inner: Map<'_>,
     res: &mut [u32],
     added: &mut [u32],
-    indexed: bool,
-    work: &mut [u32],
+    finder: &mut F,
 ) -> usize
-    requires { Ready (name_list inner_names.now inner_ends.now) (name_list outer_names.now outer_ends.now) inner.now outer.now (length res.old) (length added.old) × RoomIf indexed (name_list inner_names.now inner_ends.now) (name_list outer_names.now outer_ends.now) (length work.old) }
-    ensures { Written (composed_from (name_list inner_names.now inner_ends.now) (name_list outer_names.now outer_ends.now) inner.now [] (tokens_of outer.now)) res.old added.old result res.new added.new }
+    requires ready { Ready (list_of inner.names) (list_of outer.names) inner.table.now outer.table.now (length res.old) (length added.old) }
+    requires holds { F.Holds finder.old (list_of inner.names) (list_of outer.names) [] }
+    ensures { Written (composed_from (list_of inner.entry.names) (list_of outer.entry.names) inner.entry.table.now [] (tokens_of outer.entry.table.now)) res.old added.old result res.new added.new }
 {
-    let halves = seek::can_halve(inner);
-    make_index(
-        outer_names,
-        outer_ends,
-        inner_names,
-        inner_ends,
-        indexed,
-        work,
-    );
-    let places = token::places_in(outer.len());
+    let halves = seek::can_halve(inner.table);
     let mut known = Known {
         count: 0,
         last: token::NONE,
         given: token::NONE,
     };
     let mut place: usize = 0;
-    let mut i: usize = 0;
-    while i < places {
-        let t = token::token_at(outer, i);
-        let h = half_made(t, inner, halves, place);
-        known = name_known(
-            outer_names,
-            outer_ends,
-            inner_names,
-            inner_ends,
+    for i in 0..token::places_in(outer.table.len()) {
+        let t = token::token_at(outer.table, i);
+        let found = origin(inner.table, halves, &mut place, t);
+        let made = made_token(
+            t,
+            found,
+            inner.names,
+            outer.names,
             added,
-            indexed,
-            work,
-            known,
-            h.asks,
-            t.name_id,
+            &mut known,
+            finder,
         );
-        token::put_token(res, i, finished(h, known.given));
-        place = h.place;
-        i += 1;
+        token::put_token(res, i, made);
     }
     known.count
 }
 
-// The first test that fails, in the rules' order; Done where none does.
-fn refusal(
-    outer: &[u32],
+// The tests, in the rules' order.
+fn tested(
+    outer: Map<'_>,
     outer_sources: u32,
-    outer_names: &[u8],
-    outer_ends: &[usize],
-    inner: &[u32],
-    inner_names: &[u8],
-    inner_ends: &[usize],
+    inner: Map<'_>,
     numbers: usize,
     room: usize,
-) -> Code
-    ensures { result ≡ (composed (maps_of outer.now outer_sources outer_names.now outer_ends.now inner.now inner_names.now inner_ends.now) numbers room).code }
+) -> Result<(), Code>
+    ensures { result ≡ refusal_of (composed (maps outer.entry outer_sources inner.entry) numbers room) }
 {
     if 1 < outer_sources {
-        return Code::MoreThanOneSource;
+        return Err(Code::MoreThanOneSource);
     }
-    if token::bad_table(outer.len()) {
-        return Code::BadTable;
+    if token::bad_table(outer.table.len()) || token::bad_table(inner.table.len()) {
+        return Err(Code::BadTable);
     }
-    if token::bad_table(inner.len()) {
-        return Code::BadTable;
+    if !outer.names.is_sound() || !inner.names.is_sound() {
+        return Err(Code::BadNames);
     }
-    if !names::sound_names(outer_names, outer_ends) {
-        return Code::BadNames;
+    if token::places_in(numbers) < token::places_in(outer.table.len()) {
+        return Err(Code::TableFull);
     }
-    if !names::sound_names(inner_names, inner_ends) {
-        return Code::BadNames;
+    if room < outer.names.ends.len() {
+        return Err(Code::NoRoom(outer.names.ends.len() as u64));
     }
-    if token::places_in(numbers) < token::places_in(outer.len()) {
-        return Code::TableFull;
-    }
-    if room < outer_ends.len() {
-        return Code::NoRoom(outer_ends.len() as u64);
-    }
-    Code::Done
+    Ok(())
 }
 
-// Whether the working memory has too few places, where it is used.
-fn lacks(indexed: bool, work: usize, needed: usize) -> bool
-    ensures { result ≡ both indexed (ltb work needed) }
-{
-    if !indexed {
-        return false;
-    }
-    work < needed
-}
-
-// Both entries: `indexed` tells whether the working memory is used.
-fn composing(
-    outer: &[u32],
-    outer_sources: u32,
-    outer_names: &[u8],
-    outer_ends: &[usize],
-    inner: &[u32],
-    inner_names: &[u8],
-    inner_ends: &[usize],
-    res: &mut [u32],
-    added: &mut [u32],
-    indexed: bool,
-    work: &mut [u32],
-) -> Composed
-    ensures { Composing indexed (maps_of outer.now outer_sources outer_names.now outer_ends.now inner.now inner_names.now inner_ends.now) res.old added.old work.old result res.new added.new work.new }
-{
-    let code = refusal(
-        outer,
-        outer_sources,
-        outer_names,
-        outer_ends,
-        inner,
-        inner_names,
-        inner_ends,
-        res.len(),
-        added.len(),
-    );
-    if code::code_of(code) != 0 {
-        return Composed { code, added: 0 };
-    }
-    let needed = name_index::places_for(inner_ends.len(), outer_ends.len());
-    if lacks(indexed, work.len(), needed) {
-        return Composed {
-            code: Code::NoRoom(needed as u64),
-            added: 0,
-        };
-    }
-    let count = write_tokens(
-        outer,
-        outer_names,
-        outer_ends,
-        inner,
-        inner_names,
-        inner_ends,
-        res,
-        added,
-        indexed,
-        work,
-    );
-    Composed { code, added: count }
-}
-
+// How many outer names were added. Each is found by searching the names.
 pub fn compose(
-    outer: &[u32],
+    outer: Map<'_>,
     outer_sources: u32,
-    outer_names: &[u8],
-    outer_ends: &[usize],
-    inner: &[u32],
-    inner_names: &[u8],
-    inner_ends: &[usize],
+    inner: Map<'_>,
     res: &mut [u32],
     added: &mut [u32],
-) -> Composed
-    ensures { Composes (maps_of outer.now outer_sources outer_names.now outer_ends.now inner.now inner_names.now inner_ends.now) res.old added.old result res.new added.new }
+) -> Result<usize, Code>
+    ensures { Composes (maps outer.entry outer_sources inner.entry) res.old added.old result res.new added.new }
 {
-    let mut nothing = [0u32; 1];
-    composing(
-        outer,
-        outer_sources,
-        outer_names,
-        outer_ends,
-        inner,
-        inner_names,
-        inner_ends,
-        res,
-        added,
-        false,
-        &mut nothing,
-    )
+    tested(outer, outer_sources, inner, res.len(), added.len())?;
+    Ok(write_tokens(outer, inner, res, added, &mut Search))
 }
 
 // The same with lent working memory, in which the names are found by an index.
 pub fn compose_with(
-    outer: &[u32],
+    outer: Map<'_>,
     outer_sources: u32,
-    outer_names: &[u8],
-    outer_ends: &[usize],
-    inner: &[u32],
-    inner_names: &[u8],
-    inner_ends: &[usize],
+    inner: Map<'_>,
     res: &mut [u32],
     added: &mut [u32],
     work: &mut [u32],
-) -> Composed
-    ensures { ComposesWith (maps_of outer.now outer_sources outer_names.now outer_ends.now inner.now inner_names.now inner_ends.now) res.old added.old work.old result res.new added.new work.new }
+) -> Result<usize, Code>
+    ensures { ComposesWith (maps outer.entry outer_sources inner.entry) res.old added.old work.old result res.new added.new work.new }
 {
-    composing(
-        outer,
-        outer_sources,
-        outer_names,
-        outer_ends,
-        inner,
-        inner_names,
-        inner_ends,
-        res,
-        added,
-        true,
-        work,
-    )
+    tested(outer, outer_sources, inner, res.len(), added.len())?;
+    let needed = name_index::places_for(inner.names.ends.len(), outer.names.ends.len());
+    if work.len() < needed {
+        return Err(Code::NoRoom(needed as u64));
+    }
+    name_index::index_names(inner.names, outer.names, work);
+    Ok(write_tokens(outer, inner, res, added, &mut Index { work }))
 }

@@ -1,12 +1,14 @@
 -- The test of two lists: it holds exactly of equal ones. Assumes nothing.
 use mathlib.Core.Path.{◌≡◌, refl, ap, ap₂}
-use mathlib.Core.Bool.{Bool, true, false}
+use mathlib.Core.Bool.{Bool, true, false, ◌&&◌}
 use mathlib.Core.List.{List, [], ◌∷◌}
 use Prim.Native.Nat.{ℕ}
 use native.Mathlib.Omega.{arith}
 use lib.Dec.{eqb}
 use lib.ListN.{length}
 use borrow.Author.Tests.{eqb-true, eq-eqb}
+use Rattle.std.specs.Cmp.Lexicographic.{pointwise}
+use Rattle.list.specs.Pick.{both}
 use Rattle.list.specs.Same.{same}
 use Rattle.list.proofs.Pick.{both_true}
 
@@ -34,3 +36,15 @@ differs a b n = go (same a b) refl
     go : (t : Bool) → same a b ≡ t → false ≡ t
     go false e = refl
     go true e = absurd (n (ap length (same_is a b e)))
+
+-- what `==` says of two slices of numbers
+pub equal_same : (a b : List ℕ) → pointwise eqb a b ≡ same a b
+unfolding same
+equal_same [] [] = refl
+equal_same [] (y ∷ ys) = refl
+equal_same (x ∷ xs) [] = refl
+equal_same (x ∷ xs) (y ∷ ys) = go (eqb x y) (equal_same xs ys)
+  where
+    go : (t : Bool) → pointwise eqb xs ys ≡ same xs ys → (t && pointwise eqb xs ys) ≡ both t (same xs ys)
+    go true e = e
+    go false e = refl

@@ -2,42 +2,24 @@
 use mathlib.Core.Path.{◌≡◌, refl, ap, sym, ◌∙◌}
 use mathlib.Core.Bool.{Bool, true, false}
 use mathlib.Core.List.{List, [], ◌∷◌}
-use mathlib.Core.Option.{Option, none, some}
+use Rattle.std.specs.Prelude.{None, Some}
 use Prim.Native.Nat.{ℕ, zero, suc, ◌+◌, ◌-◌, ◌≤◌, ◌<◌}
 use native.Mathlib.Omega.{arith}
 use native.Mathlib.Nat.{sub-zero}
 use native.Mathlib.Numerals.{add-one}
-use lib.ListN.{length, drop, get_or, length-drop}
-use lib.Seq.{drop-cons, drop-length, length-take-le}
+use lib.Dec.{eqb}
+use Rattle.std.specs.Cmp.Lexicographic.{pointwise}
+use lib.ListN.{length, drop, get_or}
+use lib.Seq.{drop-cons, drop-length}
 use Rattle.list.specs.Pick.{pick}
-use Rattle.names.specs.Names.{NameList, count, begin_of, sound, name_at, same}
-use Rattle.names.proofs.Bytes.{same_is, same_self, differs}
-use Rattle.names.proofs.Ends.{name_within}
-use Rattle.name_ids.specs.declared.Search.{Search}
+use Rattle.list.specs.Same.{same}
+use Rattle.names.specs.Names.{NameList, count, name_at}
+use Rattle.list.proofs.Same.{same_is, same_self, equal_same}
 use Rattle.name_ids.specs.NameIds.{first_name, first_added}
-use Rattle.name_ids.specs.Answers.{search_of}
 
 -- the code compares a part of the text that is the name
-pub told : (r t : Bool) (part name other : List ℕ) → r ≡ same part other → part ≡ name → r ≡ t → same name other ≡ t
-told r t part name other e p f = sym (ap (λ (l : List ℕ). same l other) p) ∙ (sym e ∙ f)
-
--- a name of another length has other bytes
-pub other_length : (l : NameList) (name : List ℕ) (k from : ℕ) → sound l ≡ true → k < count l → from ≡ begin_of l.ends k
-    → (get_or l.ends k 0 - from ≡ length name → ⊥) → false ≡ same (name_at l k) name
-unfolding name_at
-other_length l name k from s h e n =
-    let w = name_within l k s h in
-    let long : length (name_at l k) ≡ get_or l.ends k 0 - begin_of l.ends k
-    = length-take-le (get_or l.ends k 0 - begin_of l.ends k) (drop (begin_of l.ends k) l.text) (omega (arith, w.low, w.high, length-drop (begin_of l.ends k) l.text)) in
-    differs (name_at l k) name (λ q. n (ap (λ (b : ℕ). get_or l.ends k 0 - b) e ∙ (sym long ∙ q)))
-
-pub was_at : (o : Option ℕ) (k : ℕ) → Search.At k ≡ search_of o → o ≡ some k
-was_at none k e = let z : ◌≡◌ {A = ℕ} 0 1 = cc in absurd (omega arith)
-was_at (some j) k e = cc
-
-pub was_nothing : (o : Option ℕ) → Search.Nothing ≡ search_of o → o ≡ none
-was_nothing none e = refl
-was_nothing (some j) e = let z : ◌≡◌ {A = ℕ} 0 1 = cc in absurd (omega arith)
+pub told : (r t : Bool) (part name other : List ℕ) → r ≡ pointwise eqb part other → part ≡ name → r ≡ t → same name other ≡ t
+told r t part name other e p f = sym (ap (λ (l : List ℕ). same l other) p) ∙ (sym (equal_same part other) ∙ (sym e ∙ f))
 
 -- ---- the names of a list, up to the k-th
 pub record Passed (l : NameList) (name : List ℕ) (k : ℕ) : Type 0 where
@@ -48,7 +30,7 @@ pub start : (l : NameList) (name : List ℕ) → Passed l name 0
 start l name = record { within = omega arith; is = rw (sub-zero (count l)) }
 
 module _ (l : NameList) (name : List ℕ) (k : ℕ) (p : Passed l name k) where
-  pub found : k < count l → same (name_at l k) name ≡ true → Search.At k ≡ search_of (first_name l name 0 (count l))
+  pub found : k < count l → same (name_at l k) name ≡ true → Some k ≡ first_name l name 0 (count l)
   unfolding first_name
   found h e =
       let n : count l - k ≡ suc (count l - (k + 1)) = omega arith in
@@ -60,7 +42,7 @@ module _ (l : NameList) (name : List ℕ) (k : ℕ) (p : Passed l name k) where
       let n : count l - k ≡ suc (count l - (k + 1)) = omega arith in
       record { within = omega arith; is = p.is ∙ rw (n, e) }
 
-  pub ended : count l ≤ k → Search.Nothing ≡ search_of (first_name l name 0 (count l))
+  pub ended : count l ≤ k → None ≡ first_name l name 0 (count l)
   unfolding first_name
   ended h =
       let n : count l - k ≡ 0 = omega arith in
@@ -75,7 +57,7 @@ pub begin : (l : NameList) (name ids : List ℕ) → Gone l name ids 0
 begin l name ids = record { within = omega arith; is = refl }
 
 module _ (l : NameList) (name ids : List ℕ) (j : ℕ) (p : Gone l name ids j) where
-  pub hit : j < length ids → same (name_at l (get_or ids j 0)) name ≡ true → Search.At j ≡ search_of (first_added l name 0 ids)
+  pub hit : j < length ids → same (name_at l (get_or ids j 0)) name ≡ true → Some j ≡ first_added l name 0 ids
   unfolding first_added
   hit h e = rw (p.is, drop-cons ids j 0 h, e)
 
@@ -83,7 +65,7 @@ module _ (l : NameList) (name ids : List ℕ) (j : ℕ) (p : Gone l name ids j) 
   unfolding first_added
   moves h e = record { within = omega arith; is = p.is ∙ rw (drop-cons ids j 0 h, e, add-one j) }
 
-  pub missed : length ids ≤ j → Search.Nothing ≡ search_of (first_added l name 0 ids)
+  pub missed : length ids ≤ j → None ≡ first_added l name 0 ids
   unfolding first_added
   missed h =
       let e : j ≡ length ids = omega (arith, p.within) in
@@ -95,13 +77,13 @@ pub record Hit (l : NameList) (name : List ℕ) (k n j : ℕ) : Type 0 where
   pub high : j < k + n
   pub bytes : name_at l j ≡ name
 
-pub name_hit : (l : NameList) (name : List ℕ) (k n j : ℕ) → first_name l name k n ≡ some j → Hit l name k n j
+pub name_hit : (l : NameList) (name : List ℕ) (k n j : ℕ) → first_name l name k n ≡ Some j → Hit l name k n j
 unfolding first_name
 name_hit l name k zero j e = let z : ◌≡◌ {A = ℕ} 0 1 = cc in absurd (omega arith)
 name_hit l name k (suc n) j e = go (same (name_at l k) name) refl e (name_hit l name (k + 1) n j)
   where
-    go : (t : Bool) → same (name_at l k) name ≡ t → pick t (some k) (first_name l name (k + 1) n) ≡ some j
-        → (first_name l name (k + 1) n ≡ some j → Hit l name (k + 1) n j) → Hit l name k (suc n) j
+    go : (t : Bool) → same (name_at l k) name ≡ t → pick t (Some k) (first_name l name (k + 1) n) ≡ Some j
+        → (first_name l name (k + 1) n ≡ Some j → Hit l name (k + 1) n j) → Hit l name k (suc n) j
     go true f q ih =
         let x : k ≡ j = cc in
         record { low = omega arith; high = omega arith; bytes = ap (name_at l) (sym x) ∙ same_is (name_at l k) name f }
@@ -109,13 +91,13 @@ name_hit l name k (suc n) j e = go (same (name_at l k) name) refl e (name_hit l 
         let h = ih q in
         record { low = omega (arith, h.low); high = omega (arith, h.high); bytes = h.bytes }
 
-pub name_missed : (l : NameList) (name : List ℕ) (k n : ℕ) → first_name l name k n ≡ none → (j : ℕ) → k ≤ j → j < k + n → name_at l j ≡ name → ⊥
+pub name_missed : (l : NameList) (name : List ℕ) (k n : ℕ) → first_name l name k n ≡ None → (j : ℕ) → k ≤ j → j < k + n → name_at l j ≡ name → ⊥
 unfolding first_name
 name_missed l name k zero e j low high b = omega arith
 name_missed l name k (suc n) e j low high b = go (same (name_at l k) name) refl e (name_missed l name (k + 1) n)
   where
-    go : (t : Bool) → same (name_at l k) name ≡ t → pick t (some k) (first_name l name (k + 1) n) ≡ none
-        → (first_name l name (k + 1) n ≡ none → (i : ℕ) → k + 1 ≤ i → i < k + 1 + n → name_at l i ≡ name → ⊥) → ⊥
+    go : (t : Bool) → same (name_at l k) name ≡ t → pick t (Some k) (first_name l name (k + 1) n) ≡ None
+        → (first_name l name (k + 1) n ≡ None → (i : ℕ) → k + 1 ≤ i → i < k + 1 + n → name_at l i ≡ name → ⊥) → ⊥
     go true f q ih = let z : ◌≡◌ {A = ℕ} 0 1 = cc in omega arith
     go false f q ih =
         let d : k ≡ j → ⊥ = (λ x. let s : same (name_at l k) name ≡ true = (rw (x, b) (same_self name)) in let z : false ≡ true = sym f ∙ s in let y : ◌≡◌ {A = ℕ} 0 1 = cc in omega arith) in
@@ -127,13 +109,13 @@ pub record AddedHit (l : NameList) (name : List ℕ) (j : ℕ) (ids : List ℕ) 
   pub high : p < j + length ids
   pub bytes : name_at l (get_or ids (p - j) 0) ≡ name
 
-pub added_hit : (l : NameList) (name : List ℕ) (j : ℕ) (ids : List ℕ) (p : ℕ) → first_added l name j ids ≡ some p → AddedHit l name j ids p
+pub added_hit : (l : NameList) (name : List ℕ) (j : ℕ) (ids : List ℕ) (p : ℕ) → first_added l name j ids ≡ Some p → AddedHit l name j ids p
 unfolding first_added
 added_hit l name j [] p e = let z : ◌≡◌ {A = ℕ} 0 1 = cc in absurd (omega arith)
 added_hit l name j (id ∷ ids) p e = go (same (name_at l id) name) refl e (added_hit l name (j + 1) ids p)
   where
-    go : (t : Bool) → same (name_at l id) name ≡ t → pick t (some j) (first_added l name (j + 1) ids) ≡ some p
-        → (first_added l name (j + 1) ids ≡ some p → AddedHit l name (j + 1) ids p) → AddedHit l name j (id ∷ ids) p
+    go : (t : Bool) → same (name_at l id) name ≡ t → pick t (Some j) (first_added l name (j + 1) ids) ≡ Some p
+        → (first_added l name (j + 1) ids ≡ Some p → AddedHit l name (j + 1) ids p) → AddedHit l name j (id ∷ ids) p
     go true f q ih =
         let x : j ≡ p = cc in
         let y : p - j ≡ 0 = omega arith in
@@ -143,14 +125,14 @@ added_hit l name j (id ∷ ids) p e = go (same (name_at l id) name) refl e (adde
         let y : p - j ≡ suc (p - (j + 1)) = omega (arith, h.low) in
         record { low = omega (arith, h.low); high = omega (arith, h.high); bytes = rw y h.bytes }
 
-pub added_missed : (l : NameList) (name : List ℕ) (j : ℕ) (ids : List ℕ) → first_added l name j ids ≡ none
+pub added_missed : (l : NameList) (name : List ℕ) (j : ℕ) (ids : List ℕ) → first_added l name j ids ≡ None
     → (p : ℕ) → p < length ids → name_at l (get_or ids p 0) ≡ name → ⊥
 unfolding first_added
 added_missed l name j [] e p h b = omega arith
 added_missed l name j (id ∷ ids) e p h b = go (same (name_at l id) name) refl e (added_missed l name (j + 1) ids) p h b
   where
-    go : (t : Bool) → same (name_at l id) name ≡ t → pick t (some j) (first_added l name (j + 1) ids) ≡ none
-        → (first_added l name (j + 1) ids ≡ none → (i : ℕ) → i < length ids → name_at l (get_or ids i 0) ≡ name → ⊥)
+    go : (t : Bool) → same (name_at l id) name ≡ t → pick t (Some j) (first_added l name (j + 1) ids) ≡ None
+        → (first_added l name (j + 1) ids ≡ None → (i : ℕ) → i < length ids → name_at l (get_or ids i 0) ≡ name → ⊥)
         → (i : ℕ) → i < suc (length ids) → name_at l (get_or (id ∷ ids) i 0) ≡ name → ⊥
     go true f q ih i k a = let z : ◌≡◌ {A = ℕ} 0 1 = cc in omega arith
     go false f q ih zero k a =

@@ -3,7 +3,7 @@ use mathlib.Core.Path.{◌≡◌, refl, ap, sym}
 use mathlib.Core.Bool.{Bool, true, false}
 use mathlib.Core.Logic.{◌⊎◌, inl, inr}
 use mathlib.Core.List.{List, [], ◌∷◌, ◌++◌}
-use mathlib.Core.Option.{Option, none, some}
+use Rattle.std.specs.Prelude.{Option, None, Some}
 use Prim.Native.Nat.{ℕ, ◌+◌, ◌≤◌, ◌<◌}
 use native.Mathlib.Omega.{arith}
 use lib.Dec.{ltb}
@@ -13,12 +13,12 @@ use borrow.Author.Tests.{ltb-true, ltb-false, lt-ltb, le-ltb}
 use Rattle.list.specs.Pick.{pick}
 use Rattle.names.specs.Names.{NameList, count, name_at}
 use Rattle.names.proofs.Ends.{few}
-use Rattle.name_ids.specs.declared.Search.{Search}
+use Rattle.name_ids.specs.declared.NameId.TheVariants.{Found, New}
 use Rattle.name_ids.specs.NameIds.{first_name, first_added, among_inner, outer_named}
 use Rattle.token.specs.Table.{no_id}
-use Rattle.name_ids.specs.Answers.{search_of, named_by, Kept, Searchable}
+use Rattle.name_ids.specs.Answers.{named_by, Kept, Searchable}
 use Rattle.name_ids.proofs.Holes.{at_most}
-use Rattle.name_ids.proofs.Find.{was_at, was_nothing, name_hit, name_missed, added_hit, added_missed}
+use Rattle.name_ids.proofs.Find.{name_hit, name_missed, added_hit, added_missed}
 use Rattle.name_ids.proofs.Stays.{by_id}
 
 pub kept_none : (inner outer : NameList) → Kept inner outer []
@@ -51,7 +51,7 @@ module _ (inner outer : NameList) (ids : List ℕ) (id : ℕ) where
       go false e = inr (omega (arith, n, ltb-false j (length ids) e))
 
   module _ (k : Kept inner outer ids) (h : id < count outer)
-      (absent : first_name inner (name_at outer id) 0 (count inner) ≡ none) (new : first_added outer (name_at outer id) 0 ids ≡ none) where
+      (absent : first_name inner (name_at outer id) 0 (count inner) ≡ None) (new : first_added outer (name_at outer id) 0 ids ≡ None) where
     before : (j : ℕ) → j < length ids → get_or more j 0 ≡ get_or ids j 0
     before j l = get_or-append ids (id ∷ []) 0 j l
 
@@ -84,9 +84,9 @@ module _ (inner outer : NameList) (ids : List ℕ) (id : ℕ) where
           → (q : Option ℕ) → first_added outer (name_at outer id) 0 ids ≡ q
           → Kept inner outer (pick t (among_inner inner outer ids id o) (record { id = no_id; added = ids })).added
       go false e o f q g = k
-      go true e (some j) f q g = k
-      go true e none f (some j) g = rw g k
-      go true e none f none g = rw g (kept_more k (ltb-true id (count outer) e) f g)
+      go true e (Some j) f q g = k
+      go true e None f (Some j) g = rw g k
+      go true e None f None g = rw g (kept_more k (ltb-true id (count outer) e) f g)
 
   -- ---- the branches of the code
   module _ (s : Searchable inner outer ids) where
@@ -96,7 +96,7 @@ module _ (inner outer : NameList) (ids : List ℕ) (id : ℕ) where
     ids_few : length ids ≤ 2147483647
     ids_few = omega (arith, few outer s.second, kept_few inner outer ids s.kept)
 
-    pub past : count outer ≤ id → named_by ids id (record { id = no_id; adds = false }) ≡ outer_named inner outer ids id
+    pub past : count outer ≤ id → named_by ids id (Found no_id) ≡ outer_named inner outer ids id
     unfolding outer_named
     past h = rw (le-ltb id (count outer) h)
 
@@ -105,42 +105,41 @@ module _ (inner outer : NameList) (ids : List ℕ) (id : ℕ) where
       pub place_fits : count inner + j ≤ 4294967294
       place_fits = omega (arith, inner_few, ids_few)
 
-      pub place_id : (j < length ids → get_or ids j 0 ≡ id) → named_by ids id (record { id = count inner + j; adds = false }) ≡ outer_named inner outer ids id
-      place_id e = sym (by_id inner outer ids s.kept id j h (e h))
+      pub place_id : get_or ids j 0 ≡ id → named_by ids id (Found (count inner + j)) ≡ outer_named inner outer ids id
+      place_id e = sym (by_id inner outer ids s.kept id j h e)
 
     module _ (h : id < count outer) (name : List ℕ) (en : name ≡ name_at outer id) where
-      module _ (j : ℕ) (e : Search.At j ≡ search_of (first_name inner name 0 (count inner))) where
-        is_inner : first_name inner (name_at outer id) 0 (count inner) ≡ some j
-        is_inner = rw en at (was_at (first_name inner name 0 (count inner)) j e)
+      module _ (j : ℕ) (e : Some j ≡ first_name inner name 0 (count inner)) where
+        is_inner : first_name inner (name_at outer id) 0 (count inner) ≡ Some j
+        is_inner = rw en at (sym e)
 
         pub inner_fits : j ≤ 2147483647
         inner_fits = omega (arith, inner_few, (name_hit inner (name_at outer id) 0 (count inner) j is_inner).high)
 
-        pub inner_id : named_by ids id (record { id = j; adds = false }) ≡ outer_named inner outer ids id
+        pub inner_id : named_by ids id (Found j) ≡ outer_named inner outer ids id
         unfolding outer_named
         inner_id = rw (lt-ltb id (count outer) h, is_inner)
 
-      module _ (e : Search.Nothing ≡ search_of (first_name inner name 0 (count inner))) where
-        not_inner : first_name inner (name_at outer id) 0 (count inner) ≡ none
-        not_inner = rw en at (was_nothing (first_name inner name 0 (count inner)) e)
+      module _ (e : None ≡ first_name inner name 0 (count inner)) where
+        not_inner : first_name inner (name_at outer id) 0 (count inner) ≡ None
+        not_inner = rw en at (sym e)
 
-        module _ (j : ℕ) (f : Search.At j ≡ search_of (first_added outer name 0 ids)) where
-          is_added : first_added outer (name_at outer id) 0 ids ≡ some j
-          is_added = rw en at (was_at (first_added outer name 0 ids) j f)
+        module _ (j : ℕ) (f : Some j ≡ first_added outer name 0 ids) where
+          is_added : first_added outer (name_at outer id) 0 ids ≡ Some j
+          is_added = rw en at (sym f)
 
           pub added_fits : count inner + j ≤ 4294967294
           added_fits = omega (arith, inner_few, ids_few, (added_hit outer (name_at outer id) 0 ids j is_added).high)
 
-          pub added_id : named_by ids id (record { id = count inner + j; adds = false }) ≡ outer_named inner outer ids id
+          pub added_id : named_by ids id (Found (count inner + j)) ≡ outer_named inner outer ids id
           unfolding outer_named
           added_id = rw (lt-ltb id (count outer) h, not_inner, is_added)
 
         pub new_fits : count inner + length ids ≤ 4294967294
         new_fits = omega (arith, inner_few, ids_few)
 
-        pub new_id : Search.Nothing ≡ search_of (first_added outer name 0 ids)
-            → named_by ids id (record { id = count inner + length ids; adds = true }) ≡ outer_named inner outer ids id
+        pub new_id : None ≡ first_added outer name 0 ids → named_by ids id (New (count inner + length ids)) ≡ outer_named inner outer ids id
         unfolding outer_named
         new_id f =
-            let q : first_added outer (name_at outer id) 0 ids ≡ none = rw en at (was_nothing (first_added outer name 0 ids) f) in
+            let q : first_added outer (name_at outer id) 0 ids ≡ None = rw en at (sym f) in
             rw (lt-ltb id (count outer) h, not_inner, q)

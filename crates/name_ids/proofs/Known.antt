@@ -2,7 +2,7 @@
 use mathlib.Core.Path.{◌≡◌, refl, ap, sym, ◌∙◌}
 use mathlib.Core.Bool.{true}
 use mathlib.Core.List.{List, [], ◌∷◌, ◌++◌}
-use mathlib.Core.Option.{Option, none, some}
+use Rattle.std.specs.Prelude.{Option, None, Some}
 use Prim.Native.Nat.{ℕ, ◌+◌, ◌-◌, ◌≤◌, ◌<◌}
 use native.Mathlib.Omega.{arith}
 use lib.Dec.{ltb}
@@ -47,18 +47,18 @@ module _ (inner outer : NameList) (ids : List ℕ) (s : Searchable inner outer i
     where
       go : (o : Option ℕ) → first_name inner (name_at outer id) 0 (count inner) ≡ o → (q : Option ℕ) → first_added outer (name_at outer id) 0 ids ≡ q
           → Known inner outer ((among_inner inner outer ids id o).added ++ rest) (among_inner inner outer ids id o).id (name_at outer id)
-      go (some k) e q f =
+      go (Some k) e q f =
           let t = name_hit inner (name_at outer id) 0 (count inner) k e in
           let y : name_at inner k ≡ name_at outer id = t.bytes in
           rw y at (known_inner inner outer s.first s.second (ids ++ rest) k (omega (arith, t.high)))
-      go none e (some j) f =
+      go None e (Some j) f =
           let t = added_hit outer (name_at outer id) 0 ids j f in
           let l : j < length ids = omega (arith, t.high) in
           let z : j - 0 ≡ j = omega arith in
           let y : name_at outer (get_or ids j 0) ≡ name_at outer id = rw z at t.bytes in
           rw f
           (rw y at (known_added inner outer s.first s.second (ids ++ rest) j (get_or ids j 0) (omega (arith, length-append ids rest)) (get_or-append ids rest 0 j l) (s.kept.below j l)))
-      go none e none f =
+      go None e None f =
           let a : List ℕ = ids ++ (id ∷ []) in
           let l : length ids < length a = omega (arith, length-append ids (id ∷ [])) in
           rw f

@@ -1,23 +1,15 @@
 -- Helpers: what inner contracts and proofs need; no contract of an entry and no theorem reaches this file.
 -- What the code answers, and what it asks. Assumes nothing.
-use Rattle.std.specs.Prelude.{◌≡◌, Bool, true, List, [], ◌∷◌, ◌++◌, ℕ, ◌<◌, length, get_or}
-use Rattle.std.proofs.Math.Option.{Option, none, some}
-use Rattle.list.specs.Pick.{pick}
+use Rattle.std.specs.Prelude.{◌≡◌, true, List, [], ◌∷◌, ◌++◌, ℕ, ◌<◌, length, get_or}
 use Rattle.names.specs.Names.{NameList, count, sound, name_at}
 use Rattle.name_ids.specs.NameIds.{Named}
-use Rattle.name_ids.specs.declared.Search.{Search}
 use Rattle.name_ids.specs.declared.NameId.{NameId}
+use Rattle.name_ids.specs.declared.NameId.TheVariants.{Found, New}
 
-abbrev pub search_of : Option ℕ → Search
-search_of none = Search.Nothing
-search_of (some k) = Search.At k
-
--- the added names, with one more where it is new
-abbrev pub grown : Bool → List ℕ → ℕ → List ℕ
-grown adds ids id = pick adds (ids ++ (id ∷ [])) ids
-
+-- what an answer says: a new name is added
 abbrev pub named_by : List ℕ → ℕ → NameId → Named
-named_by ids id n = record { id = n.id; added = grown n.adds ids id }
+named_by ids id (Found n) = record { id = n; added = ids }
+named_by ids id (New n) = record { id = n; added = ids ++ (id ∷ []) }
 
 -- the outer ids of added names: below the outer count, no two of equal bytes, none with the bytes of an inner name
 pub record Kept (inner outer : NameList) (ids : List ℕ) : Type 0 where

@@ -2,14 +2,15 @@
 use mathlib.Core.Path.{◌≡◌, refl, ap, sym, ◌∙◌, subst}
 use mathlib.Core.Bool.{Bool, false}
 use mathlib.Core.List.{List, [], ◌∷◌, ◌++◌}
-use mathlib.Core.Option.{none, some}
+use Rattle.std.specs.Prelude.{Some, None}
 use Prim.Native.Nat.{ℕ, suc, ◌+◌, ◌-◌, ◌≤◌, ◌<◌}
 use native.Mathlib.Omega.{arith}
 use lib.ListN.{length, get_or, set, length-append, length-set}
 use lib.Seq.{get_or-set_same, get_or-set_other}
 use borrow.Author.Tests.{lt-ltb}
-use Rattle.names.specs.Names.{NameList, count, name_at, same}
-use Rattle.names.proofs.Bytes.{same_is, is_same}
+use Rattle.list.specs.Same.{same}
+use Rattle.names.specs.Names.{NameList, count, name_at}
+use Rattle.list.proofs.Same.{same_is, is_same}
 use Rattle.name_ids.specs.NameIds.{first_name, first_added, outer_named}
 use Rattle.name_ids.specs.Answers.{Kept}
 use Rattle.name_ids.proofs.Grow.{kept_few, kept_more}
@@ -47,12 +48,12 @@ module _ (inner outer : NameList) (ids : List ℕ) (k : Kept inner outer ids) (i
 
   -- ---- no entry has the bytes
   module _ (e : latest is_same_name total ≡ 0) where
-    absent : first_name inner name 0 (count inner) ≡ none
+    absent : first_name inner name 0 (count inner) ≡ None
     absent =
         first_none inner name 0 (count inner)
         (λ j low high. not_inner (count inner - 1 - j) (latest_none is_same_name total e (count inner - 1 - j) (omega arith)) j (omega arith) refl)
 
-    fresh : first_added outer name 0 ids ≡ none
+    fresh : first_added outer name 0 ids ≡ None
     fresh = added_none outer name 0 ids (λ p l. not_added p (latest_none is_same_name total e (count inner + p) (omega arith)))
 
     pub new : outer_named inner outer ids id ≡ record { id = total; added = ids ++ (id ∷ []) }
@@ -72,7 +73,7 @@ module _ (inner outer : NameList) (ids : List ℕ) (k : Kept inner outer ids) (i
     pub found_inner : e < count inner → Gives inner outer ids id (count inner - 1 - e)
     unfolding outer_named
     found_inner b =
-        let at : first_name inner name 0 (count inner) ≡ some (count inner - 1 - e)
+        let at : first_name inner name 0 (count inner) ≡ Some (count inner - 1 - e)
         = first_is inner name 0 (count inner) (count inner - 1 - e) (omega arith) (omega arith)
         (sym (entry_inner inner outer ids e b) ∙ is_name)
         (λ j low high. not_inner (count inner - 1 - j) (l.after (count inner - 1 - j) (omega arith) (omega arith)) j (omega arith) refl) in
@@ -83,11 +84,11 @@ module _ (inner outer : NameList) (ids : List ℕ) (k : Kept inner outer ids) (i
     found_added b =
         let p : e - count inner < length ids = omega (arith, l.below) in
         let x : name_at outer (get_or ids (e - count inner) 0) ≡ name = sym (entry_added inner outer ids e b) ∙ is_name in
-        let out : first_name inner name 0 (count inner) ≡ none
+        let out : first_name inner name 0 (count inner) ≡ None
         = first_none inner name 0 (count inner) (λ j low high q. k.outside j (e - count inner) (omega arith) p (q ∙ sym x)) in
         let z : 0 + (e - count inner) ≡ e - count inner = omega arith in
-        let at : first_added outer name 0 ids ≡ some (e - count inner)
-        = added_is outer name 0 ids (e - count inner) p x (λ q g y. k.apart q (e - count inner) g p (y ∙ sym x)) ∙ ap some z in
+        let at : first_added outer name 0 ids ≡ Some (e - count inner)
+        = added_is outer name 0 ids (e - count inner) p x (λ q g y. k.apart q (e - count inner) g p (y ∙ sym x)) ∙ ap Some z in
         let w : count inner + (e - count inner) ≡ e = omega arith in
         rw (lt-ltb id (count outer) h, out, at, w)
 

@@ -1,40 +1,31 @@
 -- The index as it is made: memory cleared, and the inner names entered from the last to the first. Assumes nothing.
 use mathlib.Core.Path.{◌≡◌, refl, ap, sym, ◌∙◌}
-use mathlib.Core.List.{List, []}
+use mathlib.Core.List.{List, [], ◌++◌}
 use Prim.Native.Nat.{ℕ, ◌+◌, ◌-◌, ◌≤◌, ◌<◌}
 use native.Mathlib.Omega.{arith}
-use native.Mathlib.Numerals.{add-one}
-use lib.ListN.{length, get_or, set, length-set}
-use lib.Seq.{get_or-set_same, get_or-set_other}
+use lib.ListN.{length, take, drop, get_or, replicate, length-append, length-drop, get_or-append}
+use Rattle.std.proofs.lemmas.List.{get_or-replicate, length-replicate}
+use lib.Seq.{length-take-le}
 use Rattle.names.specs.Names.{NameList, count, name_at}
 use Rattle.name_index.specs.Index.{slot_of, slots_for, entry_name, Chained, Indexed}
-use Rattle.name_index.proofs.Latest.{up_to, latest_zero}
+use Rattle.name_index.proofs.Latest.{latest_zero}
 use Rattle.name_index.proofs.Slots.{slot_small}
 use Rattle.name_index.proofs.Chain as chain
 use Rattle.name_index.proofs.Chain.{entered, entered_long, entered_past}
 use Rattle.name_index.proofs.Entries.{entry_inner}
 
--- ---- the first i places are 0
-pub record Clearing (work₀ work : List ℕ) (places i : ℕ) : Type 0 where
-  pub within : i ≤ places
-  pub same : length work ≡ length work₀
-  pub clear : (j : ℕ) → j < i → get_or work j 0 ≡ 0
+-- ---- the first places are cleared
+module _ (work zs : List ℕ) (places : ℕ) (h : places ≤ length work) (e : zs ≡ replicate (length (take places work)) 0) where
+  many : length zs ≡ places
+  many = ap length e ∙ length-replicate (length (take places work)) 0 ∙ length-take-le places work h
 
-pub clear_start : (work : List ℕ) (places : ℕ) → Clearing work work places 0
-clear_start work places = record { within = omega arith; same = refl; clear = λ j h. absurd (omega arith) }
+  pub cleared : (j : ℕ) → j < places → get_or (zs ++ drop places work) j 0 ≡ 0
+  cleared j l =
+      get_or-append zs (drop places work) 0 j (omega (arith, many))
+      ∙ ap (λ (l : List ℕ). get_or l j 0) e ∙ get_or-replicate (length (take places work)) j 0 0 (omega (arith, length-take-le places work h))
 
-pub clear_step : (work₀ work : List ℕ) (places i : ℕ) → Clearing work₀ work places i → i < places → places ≤ length work₀
-    → Clearing work₀ (set work i 0) places (i + 1)
-clear_step work₀ work places i c h l =
-    record {
-      within = omega arith;
-      same = simp length-set c.same;
-      clear =
-          rw (add-one i)
-          (up_to (λ (j : ℕ). get_or (set work i 0) j 0 ≡ 0) i
-          (λ j k. get_or-set_other work i j 0 0 (λ e. omega arith) ∙ c.clear j k)
-          (get_or-set_same work i 0 0 (omega (arith, c.same))));
-    }
+  pub cleared_long : length (zs ++ drop places work) ≡ length work
+  cleared_long = omega (arith, length-append zs (drop places work), length-drop places work, many)
 
 -- ---- the first entries of the inner names are in the index, and no id is remembered
 pub record Building (inner outer : NameList) (work₀ work : List ℕ) (entry : ℕ) : Type 0 where

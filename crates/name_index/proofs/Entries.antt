@@ -1,6 +1,5 @@
 -- The names of the entries, and that they stay as names are added. Assumes nothing.
 use mathlib.Core.Path.{◌≡◌, ap, sym, ◌∙◌}
-use mathlib.Core.Bool.{Bool}
 use mathlib.Core.List.{List, [], ◌∷◌, ◌++◌}
 use Prim.Native.Nat.{ℕ, ◌+◌, ◌-◌, ◌≤◌, ◌<◌}
 use native.Mathlib.Omega.{arith}
@@ -8,7 +7,7 @@ use native.Mathlib.Decide.{dec_lt}
 use lib.ListN.{length, get_or, get_or-append}
 use lib.Seq.{get_or-append_seam}
 use borrow.Author.Tests.{lt-ltb, le-ltb}
-use Rattle.names.specs.Names.{NameList, count, name_at, same}
+use Rattle.names.specs.Names.{NameList, count, name_at}
 use Rattle.name_index.specs.Index.{entry_name}
 
 module _ (inner outer : NameList) (ids : List ℕ) where
@@ -19,15 +18,6 @@ module _ (inner outer : NameList) (ids : List ℕ) where
   pub entry_added : (e : ℕ) → count inner ≤ e → entry_name inner outer ids e ≡ name_at outer (get_or ids (e - count inner) 0)
   unfolding entry_name
   entry_added e h = rw (le-ltb e (count inner) h)
-
-  -- the code compares a part of a text that is the entry's name
-  pub inner_same : (t : Bool) (part name : List ℕ) (e : ℕ) → e < count inner → part ≡ name_at inner (count inner - 1 - e) → t ≡ same part name
-      → t ≡ same (entry_name inner outer ids e) name
-  inner_same t part name e h p q = q ∙ ap (λ (l : List ℕ). same l name) (p ∙ sym (entry_inner e h))
-
-  pub added_same : (t : Bool) (part name : List ℕ) (e : ℕ) → count inner ≤ e → part ≡ name_at outer (get_or ids (e - count inner) 0) → t ≡ same part name
-      → t ≡ same (entry_name inner outer ids e) name
-  added_same t part name e h p q = q ∙ ap (λ (l : List ℕ). same l name) (p ∙ sym (entry_added e h))
 
 module _ (inner outer : NameList) (ids : List ℕ) (x : ℕ) where
   abbrev more : List ℕ

@@ -2,15 +2,25 @@
 use mathlib.Core.Path.{◌≡◌, refl, ap, sym, ◌∙◌}
 use mathlib.Core.Bool.{Bool, true, false}
 use mathlib.Core.List.{List}
-use Prim.Native.Nat.{ℕ, suc, ◌+◌, ◌-◌, ◌≤◌, ◌<◌}
+use Prim.Native.Nat.{ℕ, zero, suc, ◌+◌, ◌≤◌, ◌<◌}
 use native.Mathlib.Omega.{arith}
 use lib.Dec.{eqb}
 use lib.ListN.{get_or}
 use borrow.Author.Tests.{eqb-true, eq-eqb}
-use Rattle.names.specs.Names.{same}
-use Rattle.names.proofs.Bytes.{same_is}
-use Rattle.name_index.specs.Index.{slot_of, latest, latest_in, latest_same, Chained}
+use Rattle.list.specs.Same.{same}
+use Rattle.list.proofs.Same.{same_is}
+use Rattle.std.specs.Prelude.{Option, Some, None}
+use Rattle.name_index.specs.Index.{slot_of, held, latest, latest_in, latest_same, Chained}
 use Rattle.name_index.proofs.Latest.{latest_here, latest_back, latest_zero, latest_most, latest_last, latest_through}
+
+-- one more than the entry, 0 for none
+abbrev pub one_more : Option ℕ → ℕ
+one_more None = 0
+one_more (Some e) = suc e
+
+more_held : (n : ℕ) → one_more (held n) ≡ n
+more_held zero = refl
+more_held (suc n) = refl
 
 module _ (slots : ℕ) (names : ℕ → List ℕ) (name : List ℕ) where
   -- every entry of this name is at or before `behind`, and so is in its slot
@@ -35,32 +45,27 @@ module _ (slots : ℕ) (names : ℕ → List ℕ) (name : List ℕ) where
       }
 
   module _ (total : ℕ) (work : List ℕ) (c : Chained slots names total work) where
-    pub begin : (slot : ℕ) → slot < slots → slot ≡ slot_of slots name → Walking total (get_or work slot 0)
-    begin slot h e = rw (c.heads slot h, e) (from total total (omega arith) refl)
+    pub begin : (slot : ℕ) → slot < slots → slot ≡ slot_of slots name → (o : Option ℕ) → o ≡ held (get_or work slot 0) → Walking total (one_more o)
+    begin slot h e o f = rw (f, more_held (get_or work slot 0), c.heads slot h, e) (from total total (omega arith) refl)
 
-    module _ (behind : ℕ) (w : Walking total behind) (nz : behind ≡ 0 → ⊥) where
-      one : behind ≡ suc (behind - 1)
-      one = omega (arith, nz)
+    module _ (entry : ℕ) (w : Walking total (suc entry)) where
+      pub inside : entry < total
+      inside = omega (arith, w.most)
 
-      pub inside : behind - 1 < total
-      inside = omega (arith, nz, w.most)
+      pub found : same (names entry) name ≡ true → Some entry ≡ held (latest_same names name total)
+      found s = ap held (sym (latest_here (λ (e : ℕ). same (names e) name) entry s) ∙ sym w.is)
 
-      pub found : (t : Bool) → t ≡ same (names (behind - 1)) name → t ≡ true → behind ≡ latest_same names name total
-      found t s e =
-          one ∙ sym (latest_here (λ (e : ℕ). same (names e) name) (behind - 1) (sym s ∙ e))
-          ∙ sym (ap (latest_same names name) one) ∙ sym w.is
+      link : get_or work (slots + entry) 0 ≡ latest in_slot entry
+      link = c.links entry inside ∙ ap (λ (s : ℕ). latest_in slots names s entry) (w.mine entry refl)
 
-      link : get_or work (slots + (behind - 1)) 0 ≡ latest in_slot (behind - 1)
-      link = c.links (behind - 1) inside ∙ ap (λ (s : ℕ). latest_in slots names s (behind - 1)) (w.mine (behind - 1) one)
+      module _ (o : Option ℕ) (f : o ≡ held (get_or work (slots + entry) 0)) where
+        pub less : one_more o < suc entry
+        less = rw (f, more_held (get_or work (slots + entry) 0)) (omega (arith, link, latest_most in_slot entry))
 
-      pub less : get_or work (slots + (behind - 1)) 0 < behind
-      less = omega (arith, link, latest_most in_slot (behind - 1), nz)
+        pub goes_on : same (names entry) name ≡ false → Walking total (one_more o)
+        goes_on s =
+            rw (f, more_held (get_or work (slots + entry) 0), link)
+            (from total entry (omega (arith, inside)) (w.is ∙ latest_back (λ (e : ℕ). same (names e) name) entry s))
 
-      pub goes_on : (t : Bool) → t ≡ same (names (behind - 1)) name → t ≡ false → Walking total (get_or work (slots + (behind - 1)) 0)
-      goes_on t s e =
-          rw link
-          (from total (behind - 1) (omega (arith, inside))
-          (w.is ∙ ap (latest_same names name) one ∙ latest_back (λ (e : ℕ). same (names e) name) (behind - 1) (sym s ∙ e)))
-
-    pub ended : (behind : ℕ) → Walking total behind → behind ≡ 0 → behind ≡ latest_same names name total
-    ended behind w z = z ∙ sym (latest_zero (λ (e : ℕ). same (names e) name)) ∙ sym (ap (latest_same names name) z) ∙ sym w.is
+    pub ended : Walking total 0 → None ≡ held (latest_same names name total)
+    ended w = ap held (sym (latest_zero (λ (e : ℕ). same (names e) name)) ∙ sym w.is)

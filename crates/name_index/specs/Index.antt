@@ -1,8 +1,9 @@
 -- Helpers: what inner contracts and proofs need; no contract of an entry and no theorem reaches this file.
 -- The index of names in lent memory. Assumes nothing.
-use Rattle.std.specs.Prelude.{◌≡◌, Bool, List, [], ◌∷◌, ℕ, zero, suc, ◌+◌, ◌-◌, ◌*◌, ◌/◌, ◌%◌, ◌≤◌, ◌<◌, eqb, ltb, length, get_or}
+use Rattle.std.specs.Prelude.{◌≡◌, Bool, Option, Some, None, List, [], ◌∷◌, ℕ, zero, suc, ◌+◌, ◌-◌, ◌*◌, ◌/◌, ◌%◌, ◌≤◌, ◌<◌, eqb, ltb, length, get_or}
 use Rattle.list.specs.Pick.{pick}
-use Rattle.names.specs.Names.{NameList, count, name_at, same}
+use Rattle.list.specs.Same.{same}
+use Rattle.names.specs.Names.{NameList, count, name_at}
 use Rattle.name_ids.specs.NameIds.{outer_named}
 
 -- a number of a name's bytes
@@ -13,6 +14,11 @@ hash_from h (b ∷ bs) = hash_from ((h + b) * 2654435761 % 4294967296) bs
 -- the slot of a name, of so many
 unfoldable pub slot_of : ℕ → List ℕ → ℕ
 slot_of slots name = hash_from 0 name * slots / 4294967296
+
+-- what a place of the working memory holds: 0 stands for none, and else it is one more
+abbrev pub held : ℕ → Option ℕ
+held zero = None
+held (suc n) = Some n
 
 -- a slot for each name of both lists
 abbrev pub slots_for : NameList → NameList → ℕ

@@ -2,22 +2,21 @@
 #![tactic(auto)]
 
 ghost use Rattle.std.specs.Prelude.{◌≡◌, true, [], ℕ, ◌+◌, ◌<◌, ◌≤◌, length, get_or, set};
-ghost use Rattle.names.specs.Names.{name_list, sound, same};
+ghost use Rattle.names.specs.Names.{list_of, sound};
 ghost use Rattle.name_ids.specs.NameIds.{outer_named};
-ghost use Rattle.name_ids.specs.Answers.{grown, named_by, Searchable};
-ghost use Rattle.name_index.specs.Index.{hash_from, slot_of, entry_name, latest_same, Indexed};
+ghost use Rattle.name_ids.specs.Answers.{named_by, Searchable};
+ghost use Rattle.name_index.specs.Index.{hash_from, slot_of, held, entry_name, latest_same, Indexed};
 
 use name_ids::NameId;
+use names::{Joined, Names};
 
 // A number of a name's bytes. A bad one costs time, and never an answer.
 fn hash_of(name: &[u8]) -> u64
     ensures { result ≡ hash_from 0 name.now }
 {
     let mut h: u64 = 0;
-    let mut i: usize = 0;
-    while i < name.len() {
-        h = (h + name[i] as u64) * 2654435761 % 4294967296;
-        i += 1;
+    for &b in name {
+        h = (h + b as u64) * 2654435761 % 4294967296;
     }
     h
 }
@@ -30,6 +29,13 @@ fn slot_of(name: &[u8], slots: usize) -> usize
     (hash_of(name) * (slots as u64) / 4294967296) as usize
 }
 
+// What a place of the working memory holds: 0 stands for none there, since a place has 32 bits and is cleared to 0.
+fn held(number: u32) -> Option<u32>
+    ensures { result ≡ held number }
+{
+    number.checked_sub(1)
+}
+
 // The entry becomes its slot's latest, and leads to the one that was.
 fn enter(work: &mut [u32], slots: usize, slot: usize, entry: usize)
     requires { ((slot < slots) × (entry < slots)) × ((slots ≤ 4294967294) × (slots + slots ≤ length work.old)) }
@@ -39,61 +45,33 @@ fn enter(work: &mut [u32], slots: usize, slot: usize, entry: usize)
     work[slot] = (entry + 1) as u32;
 }
 
-// Whether an entry has these bytes: an inner name, from the last to the first, or an added one.
-fn entry_same(
-    outer_names: &[u8],
-    outer_ends: &[usize],
-    inner_names: &[u8],
-    inner_ends: &[usize],
-    ids: &[u32],
-    entry: usize,
-    name: &[u8],
-) -> bool
-    requires { Searchable (name_list inner_names.now inner_ends.now) (name_list outer_names.now outer_ends.now) ids.now × (entry < length inner_ends.now + length ids.now) }
-    ensures { result ≡ same (entry_name (name_list inner_names.now inner_ends.now) (name_list outer_names.now outer_ends.now) ids.now entry) name.now }
+// The name of an entry: an inner name, from the last to the first, or an added one.
+fn entry_name<'a>(names: Joined<'a>, entry: usize) -> &'a [u8]
+    requires { Searchable (list_of names.inner) (list_of names.outer) names.added.now × (entry < length names.inner.ends.now + length names.added.now) }
+    ensures { result.now ≡ entry_name (list_of names.entry.inner) (list_of names.entry.outer) names.entry.added.now entry }
 {
-    let inner = inner_ends.len();
-    if entry < inner {
-        let mine = names::name_at(inner_names, inner_ends, inner - 1 - entry);
-        return names::same_bytes(mine, name);
+    let count = names.inner.ends.len();
+    if entry < count {
+        return names.inner.name_at(count - 1 - entry);
     }
-    let place = entry - inner;
-    let k = ids[place] as usize;
-    names::same_bytes(names::name_at(outer_names, outer_ends, k), name)
+    names.outer.name_at(names.added[entry - count] as usize)
 }
 
-// One more than the latest entry with these bytes, 0 where there is none: along the entries of the name's slot.
-fn latest_same(
-    outer_names: &[u8],
-    outer_ends: &[usize],
-    inner_names: &[u8],
-    inner_ends: &[usize],
-    ids: &[u32],
-    work: &[u32],
-    slot: usize,
-    name: &[u8],
-) -> usize
-    requires { (Searchable (name_list inner_names.now inner_ends.now) (name_list outer_names.now outer_ends.now) ids.now × Indexed (name_list inner_names.now inner_ends.now) (name_list outer_names.now outer_ends.now) ids.now work.now) × ((slot < length inner_ends.now + length outer_ends.now) × (slot ≡ slot_of (length inner_ends.now + length outer_ends.now) name.now)) }
-    ensures { result ≡ latest_same (entry_name (name_list inner_names.now inner_ends.now) (name_list outer_names.now outer_ends.now) ids.now) name.now (length inner_ends.now + length ids.now) }
+// The latest entry with these bytes: along the entries of the name's slot.
+fn latest_same(names: Joined<'_>, work: &[u32], slot: usize, name: &[u8]) -> Option<usize>
+    requires { (Searchable (list_of names.inner) (list_of names.outer) names.added.now × Indexed (list_of names.inner) (list_of names.outer) names.added.now work.now) × ((slot < length names.inner.ends.now + length names.outer.ends.now) × (slot ≡ slot_of (length names.inner.ends.now + length names.outer.ends.now) name.now)) }
+    ensures { result ≡ held (latest_same (entry_name (list_of names.entry.inner) (list_of names.entry.outer) names.entry.added.now) name.now (length names.entry.inner.ends.now + length names.entry.added.now)) }
 {
-    let slots = inner_ends.len() + outer_ends.len();
-    let mut behind = work[slot] as usize;
-    while behind != 0 {
-        let entry = behind - 1;
-        if entry_same(
-            outer_names,
-            outer_ends,
-            inner_names,
-            inner_ends,
-            ids,
-            entry,
-            name,
-        ) {
-            return behind;
+    let slots = names.inner.ends.len() + names.outer.ends.len();
+    let mut behind = held(work[slot]);
+    while let Some(number) = behind {
+        let entry = number as usize;
+        if entry_name(names, entry) == name {
+            return Some(entry);
         }
-        behind = work[slots + entry] as usize;
+        behind = held(work[slots + entry]);
     }
-    behind
+    None
 }
 
 // How many places the working memory of composing has: two for each inner name, and three for each outer one.
@@ -104,98 +82,54 @@ pub fn places_for(inner: usize, outer: usize) -> usize
     2 * (inner + outer) + outer
 }
 
-// The first so many places become 0.
-fn cleared(work: &mut [u32], places: usize)
-    requires { places ≤ length work.old }
-    ensures { (i : ℕ) → i < places → get_or work.new i 0 ≡ 0 }
-{
-    let mut i: usize = 0;
-    while i < places {
-        work[i] = 0;
-        i += 1;
-    }
-}
-
 // Makes the index of the inner names; no name is added yet.
-pub fn index_names(
-    outer_names: &[u8],
-    outer_ends: &[usize],
-    inner_names: &[u8],
-    inner_ends: &[usize],
-    work: &mut [u32],
-)
-    requires { ((sound (name_list inner_names.now inner_ends.now) ≡ true) × (sound (name_list outer_names.now outer_ends.now) ≡ true)) × (length inner_ends.now + length outer_ends.now + (length inner_ends.now + length outer_ends.now) + length outer_ends.now ≤ length work.old) }
-    ensures { Indexed (name_list inner_names.now inner_ends.now) (name_list outer_names.now outer_ends.now) [] work.new }
+pub fn index_names(inner: Names<'_>, outer: Names<'_>, work: &mut [u32])
+    requires { ((sound (list_of inner) ≡ true) × (sound (list_of outer) ≡ true)) × (length inner.ends.now + length outer.ends.now + (length inner.ends.now + length outer.ends.now) + length outer.ends.now ≤ length work.old) }
+    ensures { Indexed (list_of inner.entry) (list_of outer.entry) [] work.new }
 {
-    let inner = inner_ends.len();
-    let slots = inner + outer_ends.len();
-    cleared(work, places_for(inner, outer_ends.len()));
-    let mut entry: usize = 0;
-    while entry < inner {
-        let name = names::name_at(inner_names, inner_ends, inner - 1 - entry);
+    let count = inner.ends.len();
+    let slots = count + outer.ends.len();
+    work[..places_for(count, outer.ends.len())].fill(0);
+    for entry in 0..count {
+        let name = inner.name_at(count - 1 - entry);
         enter(work, slots, slot_of(name, slots), entry);
-        entry += 1;
     }
 }
 
 // The id of an outer name: remembered, or found by the index, else new, and then entered.
-pub fn indexed_name_id(
-    outer_names: &[u8],
-    outer_ends: &[usize],
-    inner_names: &[u8],
-    inner_ends: &[usize],
-    ids: &[u32],
-    work: &mut [u32],
-    id: u32,
-) -> NameId
-    requires { Searchable (name_list inner_names.now inner_ends.now) (name_list outer_names.now outer_ends.now) ids.now × Indexed (name_list inner_names.now inner_ends.now) (name_list outer_names.now outer_ends.now) ids.now work.old }
-    ensures { (named_by ids.now id result ≡ outer_named (name_list inner_names.now inner_ends.now) (name_list outer_names.now outer_ends.now) ids.now id) × Indexed (name_list inner_names.now inner_ends.now) (name_list outer_names.now outer_ends.now) (grown result.adds ids.now id) work.new }
+pub fn indexed_name_id(names: Joined<'_>, work: &mut [u32], id: u32) -> NameId
+    requires { Searchable (list_of names.inner) (list_of names.outer) names.added.now × Indexed (list_of names.inner) (list_of names.outer) names.added.now work.old }
+    ensures is { named_by names.entry.added.now id result ≡ outer_named (list_of names.entry.inner) (list_of names.entry.outer) names.entry.added.now id }
+    ensures index { Indexed (list_of names.entry.inner) (list_of names.entry.outer) (outer_named (list_of names.entry.inner) (list_of names.entry.outer) names.entry.added.now id).added work.new }
 {
+    let Joined {
+        inner,
+        outer,
+        added,
+    } = names;
     let k = id as usize;
-    let inner = inner_ends.len();
-    let slots = inner + outer_ends.len();
-    if outer_ends.len() <= k {
-        return NameId {
-            id: token::NONE,
-            adds: false,
-        };
+    let count = inner.ends.len();
+    let slots = count + outer.ends.len();
+    if outer.ends.len() <= k {
+        return NameId::Found(token::NONE);
     }
     let memo = slots + slots + k;
-    let known = work[memo];
-    if known != 0 {
-        return NameId {
-            id: known - 1,
-            adds: false,
-        };
+    if let Some(known) = held(work[memo]) {
+        return NameId::Found(known);
     }
-    let name = names::name_at(outer_names, outer_ends, k);
+    let name = outer.name_at(k);
     let slot = slot_of(name, slots);
-    let behind = latest_same(
-        outer_names,
-        outer_ends,
-        inner_names,
-        inner_ends,
-        ids,
-        work,
-        slot,
-        name,
-    );
-    if behind == 0 {
-        let entry = inner + ids.len();
+    let Some(entry) = latest_same(names, work, slot, name) else {
+        let entry = count + added.len();
         enter(work, slots, slot, entry);
         work[memo] = (entry + 1) as u32;
-        return NameId {
-            id: entry as u32,
-            adds: true,
-        };
-    }
-    let mut found = behind - 1;
-    if found < inner {
-        found = inner - behind;
-    }
+        return NameId::New(entry as u32);
+    };
+    let found = if entry < count {
+        count - 1 - entry
+    } else {
+        entry
+    };
     work[memo] = (found + 1) as u32;
-    NameId {
-        id: found as u32,
-        adds: false,
-    }
+    NameId::Found(found as u32)
 }

@@ -2,12 +2,13 @@
 use mathlib.Core.Path.{◌≡◌}
 use mathlib.Core.Bool.{Bool, true, false}
 use mathlib.Core.List.{List, []}
+use Rattle.std.specs.Prelude.{Some, None}
 use Prim.Native.Nat.{ℕ, ◌-◌, ◌≤◌, ◌<◌}
 use lib.Dec.{ltb}
 use lib.ListN.{length, get_or}
 use borrow.Author.Tests.{ltb-true, lt-ltb, le-ltb}
 use Rattle.list.specs.Pick.{pick, both}
-use Rattle.names.specs.Names.{NameList, count, begin_of, sound, name_at, exists, place_of, name_of}
+use Rattle.names.specs.Names.{NameList, count, sound, name_at, exists, place_at, place_of, name_of}
 use Rattle.list.proofs.Pick.{both_true}
 
 module _ (inner outer : NameList) (added : List ℕ) (id : ℕ) where
@@ -67,20 +68,18 @@ module _ (inner outer : NameList) (added : List ℕ) (id : ℕ) where
       unfolding name_of
       outer_name = rw (e, le-ltb id (count inner) h)
 
-      pub outer_place : (b : ℕ) → b ≡ begin_of outer.ends (get_or added (id - count inner) 0)
-          → record { found = true; outer = true; start = b; end = get_or outer.ends (get_or added (id - count inner) 0) 0 } ≡ place_of inner outer added id
+      pub outer_place : Some (place_at true outer (get_or added (id - count inner) 0)) ≡ place_of inner outer added id
       unfolding place_of
-      outer_place b eb = rw (e, le-ltb id (count inner) h, eb)
+      outer_place = rw (e, le-ltb id (count inner) h)
 
     module _ (h : id < count inner) where
       pub inner_name : name_at inner id ≡ name_of inner outer added id
       unfolding name_of
       inner_name = rw (e, lt-ltb id (count inner) h)
 
-      pub inner_place : (b : ℕ) → b ≡ begin_of inner.ends id
-          → record { found = true; outer = false; start = b; end = get_or inner.ends id 0 } ≡ place_of inner outer added id
+      pub inner_place : Some (place_at false inner id) ≡ place_of inner outer added id
       unfolding place_of
-      inner_place b eb = rw (e, lt-ltb id (count inner) h, eb)
+      inner_place = rw (e, lt-ltb id (count inner) h)
 
   -- ---- where it does not
   module _ (e : has ≡ false) where
@@ -88,6 +87,6 @@ module _ (inner outer : NameList) (added : List ℕ) (id : ℕ) where
     unfolding name_of
     no_name = rw e
 
-    pub no_place : record { found = false; outer = false; start = 0; end = 0 } ≡ place_of inner outer added id
+    pub no_place : None ≡ place_of inner outer added id
     unfolding place_of
     no_place = rw e

@@ -1,4 +1,3 @@
-pub mod Bytes
 pub mod Ends
 pub mod Ids
 pub mod Places

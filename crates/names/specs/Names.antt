@@ -1,7 +1,8 @@
 -- docs/RULES.md, Names: name lists. Assumes nothing.
-use Rattle.std.specs.Prelude.{Bool, true, false, List, [], ◌∷◌, ℕ, zero, suc, ◌-◌, eqb, leb, ltb, length, take, drop, get_or}
+use Rattle.std.specs.Prelude.{Bool, true, false, Option, Some, None, List, [], ◌∷◌, ℕ, zero, suc, ◌-◌, leb, ltb, length, take, drop, get_or}
 use Rattle.list.specs.Pick.{pick, both}
 use Rattle.names.specs.declared.NamePlace.{NamePlace}
+use Rattle.names.specs.declared.Names.{Names}
 
 -- a name list: a text, and where each name ends in it
 pub record NameList : Type 0 where
@@ -11,6 +12,10 @@ pub record NameList : Type 0 where
 -- a lent text and its lent ends
 abbrev pub name_list : List ℕ → List ℕ → NameList
 name_list text ends = record { text = text; ends = ends }
+
+-- the name list that a value of the code holds
+abbrev pub list_of : Names → NameList
+list_of names = name_list names.text.now names.ends.now
 
 abbrev pub count : NameList → ℕ
 count l = length l.ends
@@ -33,13 +38,6 @@ sound l = both (leb (count l) 2147483647) (both (rises 0 l.ends) (leb (begin_of 
 unfoldable pub name_at : NameList → ℕ → List ℕ
 name_at l k = take (get_or l.ends k 0 - begin_of l.ends k) (drop (begin_of l.ends k) l.text)
 
--- two lists of bytes are equal
-unfoldable pub same : List ℕ → List ℕ → Bool
-same [] [] = true
-same [] (b ∷ bs) = false
-same (a ∷ as') [] = false
-same (a ∷ as') (b ∷ bs) = both (eqb a b) (same as' bs)
-
 -- ---- the names of result ids: the inner names, and then the outer names that composing added, by their outer ids
 
 -- the id exists: both lists are sound, and it is below the inner count or a place of the added list whose entry is below the outer count
@@ -49,19 +47,16 @@ exists inner outer added id =
     (pick (ltb id (count inner)) true
     (both (ltb (id - count inner) (length added)) (ltb (get_or added (id - count inner) 0) (count outer)))))
 
--- where its name stands: in the inner text, or in the outer one
-unfoldable pub place_of : NameList → NameList → List ℕ → ℕ → NamePlace
+-- where the k-th name of a list stands, in the outer text or in the inner one
+abbrev pub place_at : Bool → NameList → ℕ → NamePlace
+place_at outer l k = record { outer = outer; start = begin_of l.ends k; end = get_or l.ends k 0 }
+
+-- where its name stands, if it exists
+unfoldable pub place_of : NameList → NameList → List ℕ → ℕ → Option NamePlace
 place_of inner outer added id =
     pick (exists inner outer added id)
-    (pick (ltb id (count inner))
-    (record { found = true; outer = false; start = begin_of inner.ends id; end = get_or inner.ends id 0 })
-    (record {
-      found = true;
-      outer = true;
-      start = begin_of outer.ends (get_or added (id - count inner) 0);
-      end = get_or outer.ends (get_or added (id - count inner) 0) 0;
-    }))
-    (record { found = false; outer = false; start = 0; end = 0 })
+    (pick (ltb id (count inner)) (Some (place_at false inner id)) (Some (place_at true outer (get_or added (id - count inner) 0))))
+    None
 
 -- the name's bytes, empty for an unknown id or a bad list
 unfoldable pub name_of : NameList → NameList → List ℕ → ℕ → List ℕ

@@ -2,162 +2,130 @@
 #![tactic(auto)]
 
 ghost use Rattle.std.specs.Prelude.{◌≡◌, true, ◌<◌, ◌≤◌, length};
-ghost use Rattle.names.specs.Names.{name_list, begin_of, sound, name_at, same, exists, place_of, name_of};
+ghost use Rattle.names.specs.Names.{list_of, begin_of, sound, name_at, exists, place_at, place_of, name_of};
 
 // The most names that a list may have.
 pub const MOST: usize = 2147483647;
 
-// Where the name of an id stands: whether it exists, in the outer text or the inner one, and from where to where.
+// A text, and where each name ends in it.
+#[derive(Clone, Copy)]
+pub struct Names<'a> {
+    pub text: &'a [u8],
+    pub ends: &'a [usize],
+}
+
+// The names of a composed map: those of its inner map, and the outer ones that composing added, by their outer ids.
+#[derive(Clone, Copy)]
+pub struct Joined<'a> {
+    pub inner: Names<'a>,
+    pub outer: Names<'a>,
+    pub added: &'a [u32],
+}
+
+// Where a name stands: in the outer text or the inner one, and from where to where.
 #[derive(Clone, Copy)]
 pub struct NamePlace {
-    pub found: bool,
     pub outer: bool,
     pub start: usize,
     pub end: usize,
 }
 
-// Where the k-th name begins.
-fn begin_of(ends: &[usize], k: usize) -> usize
-    requires { k ≤ length ends.now }
-    ensures { result ≡ begin_of ends.now k }
-{
-    if k == 0 {
-        return 0;
+impl<'a> Names<'a> {
+    // Where the k-th name begins.
+    fn begin_of(self, k: usize) -> usize
+        requires { k ≤ length self.ends.now }
+        ensures { result ≡ begin_of self.entry.ends.now k }
+    {
+        if k == 0 {
+            return 0;
+        }
+        self.ends[k - 1]
     }
-    ends[k - 1]
-}
 
-// Whether a text and its ends are a name list.
-pub fn sound_names(text: &[u8], ends: &[usize]) -> bool
-    ensures { result ≡ sound (name_list text.now ends.now) }
-{
-    if MOST < ends.len() {
-        return false;
-    }
-    let mut from: usize = 0;
-    let mut i: usize = 0;
-    while i < ends.len() {
-        let end = ends[i];
-        if end < from {
+    // Whether a text and its ends are a name list.
+    pub fn is_sound(self) -> bool
+        ensures { result ≡ sound (list_of self.entry) }
+    {
+        if MOST < self.ends.len() {
             return false;
         }
-        from = end;
-        i += 1;
+        let mut from = 0;
+        for &end in self.ends {
+            if end < from {
+                return false;
+            }
+            from = end;
+        }
+        from <= self.text.len()
     }
-    from <= text.len()
+
+    // The k-th name, a part of the text.
+    pub fn name_at(self, k: usize) -> &'a [u8]
+        requires { (sound (list_of self) ≡ true) × (k < length self.ends.now) }
+        ensures { result.now ≡ name_at (list_of self.entry) k }
+    {
+        &self.text[self.begin_of(k)..self.ends[k]]
+    }
+
+    // Where the k-th name stands, in the outer text or the inner one.
+    fn place_at(self, outer: bool, k: usize) -> NamePlace
+        requires { k < length self.ends.now }
+        ensures { result ≡ place_at outer (list_of self.entry) k }
+    {
+        NamePlace {
+            outer,
+            start: self.begin_of(k),
+            end: self.ends[k],
+        }
+    }
 }
 
-// The k-th name, a part of the text.
-pub fn name_at<'a>(text: &'a [u8], ends: &[usize], k: usize) -> &'a [u8]
-    requires { (sound (name_list text.now ends.now) ≡ true) × (k < length ends.now) }
-    ensures { result.now ≡ name_at (name_list text.now ends.now) k }
-{
-    let start = begin_of(ends, k);
-    let end = ends[k];
-    &text[start..end]
-}
-
-pub fn same_bytes(a: &[u8], b: &[u8]) -> bool
-    ensures { result ≡ same a.now b.now }
-{
-    if a.len() != b.len() {
-        return false;
-    }
-    let mut i: usize = 0;
-    while i < a.len() {
-        if a[i] != b[i] {
+impl<'a> Joined<'a> {
+    // Whether a result id has a name: an inner one, or an outer one that was added.
+    pub fn name_exists(self, id: u32) -> bool
+        ensures { result ≡ exists (list_of self.entry.inner) (list_of self.entry.outer) self.entry.added.now id }
+    {
+        if !self.inner.is_sound() || !self.outer.is_sound() {
             return false;
         }
-        i += 1;
+        let at = id as usize;
+        let count = self.inner.ends.len();
+        if at < count {
+            return true;
+        }
+        match self.added.get(at - count) {
+            Some(&outer_id) => (outer_id as usize) < self.outer.ends.len(),
+            None => false,
+        }
     }
-    true
-}
 
-// Whether a result id has a name: an inner one, or an outer one that was added.
-pub fn name_exists(
-    inner: &[u8],
-    inner_ends: &[usize],
-    outer: &[u8],
-    outer_ends: &[usize],
-    added: &[u32],
-    id: u32,
-) -> bool
-    ensures { result ≡ exists (name_list inner.now inner_ends.now) (name_list outer.now outer_ends.now) added.now id }
-{
-    if !sound_names(inner, inner_ends) {
-        return false;
+    // The name of a result id, a part of one of the two texts; empty where the id has none.
+    pub fn name_of(self, id: u32) -> &'a [u8]
+        ensures { result.now ≡ name_of (list_of self.entry.inner) (list_of self.entry.outer) self.entry.added.now id }
+    {
+        if !self.name_exists(id) {
+            return &self.inner.text[0..0];
+        }
+        let k = id as usize;
+        let count = self.inner.ends.len();
+        if k < count {
+            return self.inner.name_at(k);
+        }
+        self.outer.name_at(self.added[k - count] as usize)
     }
-    if !sound_names(outer, outer_ends) {
-        return false;
-    }
-    let at = id as usize;
-    if at < inner_ends.len() {
-        return true;
-    }
-    let place = at - inner_ends.len();
-    if added.len() <= place {
-        return false;
-    }
-    (added[place] as usize) < outer_ends.len()
-}
 
-// The name of a result id, a part of one of the two texts; empty where the id has none.
-pub fn name_of<'a>(
-    inner: &'a [u8],
-    inner_ends: &[usize],
-    outer: &'a [u8],
-    outer_ends: &[usize],
-    added: &[u32],
-    id: u32,
-) -> &'a [u8]
-    ensures { result.now ≡ name_of (name_list inner.now inner_ends.now) (name_list outer.now outer_ends.now) added.now id }
-{
-    if !name_exists(inner, inner_ends, outer, outer_ends, added, id) {
-        return &inner[0..0];
-    }
-    let k = id as usize;
-    if k < inner_ends.len() {
-        return name_at(inner, inner_ends, k);
-    }
-    let place = k - inner_ends.len();
-    let outer_id = added[place] as usize;
-    name_at(outer, outer_ends, outer_id)
-}
-
-// Where the name of a result id stands.
-pub fn name_place(
-    inner: &[u8],
-    inner_ends: &[usize],
-    outer: &[u8],
-    outer_ends: &[usize],
-    added: &[u32],
-    id: u32,
-) -> NamePlace
-    ensures { result ≡ place_of (name_list inner.now inner_ends.now) (name_list outer.now outer_ends.now) added.now id }
-{
-    if !name_exists(inner, inner_ends, outer, outer_ends, added, id) {
-        return NamePlace {
-            found: false,
-            outer: false,
-            start: 0,
-            end: 0,
-        };
-    }
-    let at = id as usize;
-    if at < inner_ends.len() {
-        return NamePlace {
-            found: true,
-            outer: false,
-            start: begin_of(inner_ends, at),
-            end: inner_ends[at],
-        };
-    }
-    let place = at - inner_ends.len();
-    let outer_id = added[place] as usize;
-    NamePlace {
-        found: true,
-        outer: true,
-        start: begin_of(outer_ends, outer_id),
-        end: outer_ends[outer_id],
+    // Where the name of a result id stands.
+    pub fn name_place(self, id: u32) -> Option<NamePlace>
+        ensures { result ≡ place_of (list_of self.entry.inner) (list_of self.entry.outer) self.entry.added.now id }
+    {
+        if !self.name_exists(id) {
+            return None;
+        }
+        let at = id as usize;
+        let count = self.inner.ends.len();
+        if at < count {
+            return Some(self.inner.place_at(false, at));
+        }
+        Some(self.outer.place_at(true, self.added[at - count] as usize))
     }
 }

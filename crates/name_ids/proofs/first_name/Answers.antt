@@ -1,33 +1,33 @@
 -- `name_ids::first_name` meets its contract, by the laws of `Find`. Assumes nothing.
-use native.Mathlib.Omega.{arith}
 use native.Mathlib.Numerals.{add-one}
-use mathlib.Core.Path.{refl, sym, ◌∙◌}
-use Rattle.name_ids.proofs.Find.{start, found, goes_on, ended}
+use mathlib.Core.Path.{refl}
+use Rattle.names.proofs.Ends.{name_within, part_low, part_is}
+use Rattle.name_ids.proofs.Find.{told, start, found, goes_on, ended}
 use Rattle.name_ids.proofs.first_name.Goals as goal
 
 pub loop-k-init : goal.loop-k-init
-loop-k-init c = (start _ _, refl)
+loop-k-init c = record { passed = start _ _; begun = refl }
 
-pub is_name-requires : goal.is_name-requires
-is_name-requires c = (c.requires, (c.loop-k-test.true, c.loop-k.invariant.1))
+pub slice_bounds-eq-count : goal.slice_bounds-eq-count
+slice_bounds-eq-count c = part_low _ _ _ c.loop-k.invariant.begun c.requires c.loop-k-test.true
 
-pub returns-then-is_name : goal.returns-then-is_name
-returns-then-is_name c = found _ _ _ c.loop-k.invariant.0 c.loop-k-test.true (sym c.is_name.ensures ∙ c.if-is_name.true)
+pub slice_bounds-eq-start : goal.slice_bounds-eq-start
+slice_bounds-eq-start c = part_low _ _ _ c.loop-k.invariant.begun c.requires c.loop-k-test.true
 
-pub offset_bounds-ends-k : goal.offset_bounds-ends-k
-offset_bounds-ends-k c = omega (arith, c.loop-k-test.true, c.well_formed.1.0)
+pub slice_bounds-eq-end : goal.slice_bounds-eq-end
+slice_bounds-eq-end c = (name_within _ _ c.requires c.loop-k-test.true).high
 
-pub bounds-ends-k : goal.bounds-ends-k
-bounds-ends-k c = c.loop-k-test.true
-
-pub overflow_add-k : goal.overflow_add-k
-overflow_add-k c = omega (arith, c.loop-k-test.true, c.well_formed.1.0)
-
-pub loop-k-smaller : goal.loop-k-smaller
-loop-k-smaller c = omega (arith, c.loop-k-test.true)
+pub returns-then-eq : goal.returns-then-eq
+returns-then-eq c =
+    found _ _ _ c.loop-k.invariant.passed c.loop-k-test.true
+    (told _ _ _ _ _ c.eq.ensures (part_is _ _ _ c.loop-k.invariant.begun) c.if-eq.true)
 
 pub loop-k-preserved : goal.loop-k-preserved
-loop-k-preserved c = (goes_on _ _ _ c.loop-k.invariant.0 c.loop-k-test.true (sym c.is_name.ensures ∙ c.if-is_name.false), rw (add-one c.loop-k.k))
+loop-k-preserved c =
+    record {
+      passed = goes_on _ _ _ c.loop-k.invariant.passed c.loop-k-test.true (told _ _ _ _ _ c.eq.ensures (part_is _ _ _ c.loop-k.invariant.begun) c.if-eq.false);
+      begun = rw (add-one c.loop-k.k);
+    }
 
 pub returns : goal.returns
-returns c = ended _ _ _ c.loop-k.invariant.0 c.loop-k-test.false
+returns c = ended _ _ _ c.loop-k.invariant.passed c.loop-k-test.false

@@ -1,21 +1,20 @@
 -- `name_index::index_names` meets its contract, by the laws of `Slots` and `Build`. Assumes nothing.
+use Prim.Native.Nat.{◌≤◌}
 use native.Mathlib.Omega.{arith}
+use lib.ListN.{length}
 use Rattle.names.proofs.Ends.{few}
 use Rattle.name_index.proofs.Slots.{few_slots}
-use Rattle.name_index.proofs.Build.{build_start, build_slot, build_step, built}
+use Rattle.name_index.proofs.Build.{cleared, cleared_long, build_start, build_slot, build_step, built}
 use Rattle.name_index.proofs.index_names.Goals as goal
 
 pub places_for-requires : goal.places_for-requires
 places_for-requires c = (omega (arith, few _ c.requires.0.0), omega (arith, few _ c.requires.0.1))
 
-pub cleared-requires : goal.cleared-requires
-cleared-requires c = omega (arith, c.places_for.ensures)
-
 pub loop-entry-init : goal.loop-entry-init
-loop-entry-init c = build_start _ _ _ _ (omega (arith, c.requires.1)) c.places_for.ensures c.cleared.ensures
-
-pub name_at-name-requires : goal.name_at-name-requires
-name_at-name-requires c = (c.requires.0.0, omega arith)
+loop-entry-init c =
+    let h : c.places_for.result ≤ length c.args.work.now = omega (arith, c.requires.1, c.places_for.ensures) in
+    let e = c.fill.ensures.after (λ y q. q) in
+    build_start _ _ _ _ (omega (arith, c.requires.1, cleared_long _ _ _ h e)) c.places_for.ensures (cleared _ _ _ h e)
 
 pub slot_of-requires : goal.slot_of-requires
 slot_of-requires c = few_slots _ _ c.requires.0.0 c.requires.0.1

@@ -26,6 +26,14 @@ pub struct State {
     pub at: usize,
 }
 
+// What a text is held to: the mode, and how many sources and names there are.
+#[derive(Clone, Copy)]
+pub struct Limits {
+    pub mode: Mode,
+    pub sources: u32,
+    pub names: u32,
+}
+
 // What a refusal is about: the whole segment, one of its first five fields, or the place where a value broke.
 #[derive(Clone, Copy)]
 pub enum About {
@@ -96,12 +104,12 @@ fn token_of(s: State, source_id: u32, name_id: u32) -> Token
 
 // 1. The column; the place moves past the segment.
 #[tactic(auto, using(crate::proofs::Laws::held), unfolding(crate::specs::Apply::columned))]
-fn column(mode: Mode, s: State, g: Segment) -> Result<State, Refusal>
+fn column(limits: Limits, s: State, g: Segment) -> Result<State, Refusal>
     requires { Small g }
-    ensures { result ≡ columned mode s g }
+    ensures { result ≡ columned limits.mode s g }
 {
     let nums = g.nums;
-    let dst_col = kept(sums::advance(mode, s.dst_col, nums[0]), 0)?;
+    let dst_col = kept(sums::advance(limits.mode, s.dst_col, nums[0]), 0)?;
     Ok(State {
         dst_col,
         at: g.next,
@@ -111,16 +119,16 @@ fn column(mode: Mode, s: State, g: Segment) -> Result<State, Refusal>
 
 // 3, 4. The source, then its line, then its column.
 #[tactic(auto, using(crate::proofs::Laws::held), unfolding(crate::specs::Apply::mapped))]
-fn source(mode: Mode, sources: u32, s: State, g: Segment) -> Result<State, Refusal>
+fn source(limits: Limits, s: State, g: Segment) -> Result<State, Refusal>
     requires { Small g }
-    ensures { result ≡ mapped mode sources s g }
+    ensures { result ≡ mapped limits.mode limits.sources s g }
 {
     let nums = g.nums;
-    let Some(source_id) = sums::source_after(s.source_id, nums[1], sources) else {
+    let Some(source_id) = sums::source_after(s.source_id, nums[1], limits.sources) else {
         return Err(at_field(Code::BadSourceReference(s.source_id), 1));
     };
-    let src_line = kept(sums::advance(mode, s.src_line, nums[2]), 2)?;
-    let src_col = kept(sums::advance(mode, s.src_col, nums[3]), 3)?;
+    let src_line = kept(sums::advance(limits.mode, s.src_line, nums[2]), 2)?;
+    let src_col = kept(sums::advance(limits.mode, s.src_col, nums[3]), 3)?;
     Ok(State {
         source_id,
         src_line,
@@ -131,13 +139,13 @@ fn source(mode: Mode, sources: u32, s: State, g: Segment) -> Result<State, Refus
 
 // 5. The name.
 #[tactic(auto, using(crate::proofs::Laws::held), unfolding(crate::specs::Apply::named))]
-fn name(mode: Mode, names: u32, s: State, g: Segment) -> Result<State, Refusal>
+fn name(limits: Limits, s: State, g: Segment) -> Result<State, Refusal>
     requires { Small g }
-    ensures { result ≡ named mode names s g }
+    ensures { result ≡ named limits.mode limits.names s g }
 {
     let nums = g.nums;
-    let name_id = kept(sums::name_after(mode, s.name_id, nums[4]), 4)?;
-    if name_id < names {
+    let name_id = kept(sums::name_after(limits.mode, s.name_id, nums[4]), 4)?;
+    if name_id < limits.names {
         return Ok(State { name_id, ..s });
     }
     Err(at_field(Code::BadNameReference(name_id), 4))
@@ -145,48 +153,44 @@ fn name(mode: Mode, names: u32, s: State, g: Segment) -> Result<State, Refusal>
 
 // Four fields: a source and no name.
 #[tactic(auto, unfolding(crate::specs::Apply::four))]
-fn apply_four(mode: Mode, sources: u32, s: State, g: Segment) -> Result<(Token, State), Refusal>
+fn apply_four(limits: Limits, s: State, g: Segment) -> Result<(Token, State), Refusal>
     requires { Small g }
-    ensures { result ≡ four mode sources s g }
+    ensures { result ≡ four limits.mode limits.sources s g }
 {
-    let r = source(mode, sources, s, g)?;
+    let r = source(limits, s, g)?;
     Ok((token_of(r, r.source_id, token::NONE), r))
 }
 
 // Five fields: a source and a name.
 #[tactic(auto, unfolding(crate::specs::Apply::five))]
 fn apply_five(
-    mode: Mode,
-    sources: u32,
-    names: u32,
+    limits: Limits,
     s: State,
     g: Segment,
 ) -> Result<(Token, State), Refusal>
     requires { Small g }
-    ensures { result ≡ five mode sources names s g }
+    ensures { result ≡ five limits.mode limits.sources limits.names s g }
 {
-    let r = source(mode, sources, s, g)?;
-    let q = name(mode, names, r, g)?;
+    let r = source(limits, s, g)?;
+    let q = name(limits, r, g)?;
     Ok((token_of(q, q.source_id, q.name_id), q))
 }
 
 // 2. The field count.
 #[tactic(auto, unfolding(crate::specs::Apply::counted))]
 fn apply_count(
-    mode: Mode,
-    sources: u32,
-    names: u32,
+    limits: Limits,
     s: State,
     g: Segment,
 ) -> Result<(Token, State), Refusal>
     requires { Small g }
-    ensures { result ≡ counted mode sources names s g }
+    ensures { result ≡ counted limits.mode limits.sources limits.names s g }
 {
     let count = g.count;
     match count {
         1 => Ok((token_of(s, token::NONE, token::NONE), s)),
-        4 => apply_four(mode, sources, s, g),
-        5 => apply_five(mode, sources, names, s, g),
+        4 => apply_four(limits, s, g),
+        5 => apply_five(limits, s, g),
         _ => Err(Refusal {
             code: Code::BadSegmentSize((count % 4294967296) as u32),
             about: About::Whole,
@@ -197,18 +201,16 @@ fn apply_count(
 // A segment whose values are all read: none of the first five is too wide, then steps 1 to 5.
 #[tactic(auto, unfolding(crate::specs::Apply::applied))]
 pub fn apply_segment(
-    mode: Mode,
-    sources: u32,
-    names: u32,
+    limits: Limits,
     s: State,
     g: Segment,
 ) -> Result<(Token, State), Refusal>
     requires { Small g }
-    ensures { result ≡ applied mode sources names s g }
+    ensures { result ≡ applied limits.mode limits.sources limits.names s g }
 {
     if let Some(field) = g.wide {
         return Err(at_field(Code::WideValue(field), field));
     }
-    let r = column(mode, s, g)?;
-    apply_count(mode, sources, names, r, g)
+    let r = column(limits, s, g)?;
+    apply_count(limits, r, g)
 }

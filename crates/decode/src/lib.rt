@@ -8,7 +8,7 @@ ghost use Rattle.std.specs.Prelude.{◌≡◌};
 ghost use Rattle.decode.specs.Mapping.{by_default, Decodes};
 ghost use Rattle.value.specs.declared.Mode.{Mode};
 
-use apply::State;
+use apply::{Limits, State};
 use code::Code;
 use value::Mode;
 
@@ -34,15 +34,25 @@ fn ended(end: Result<(), Code>, tokens: usize, offset: usize) -> Decoded
     }
 }
 
+fn limits(mode: Mode, sources: u32, names: u32) -> Limits
+    ensures { result ≡ record { mode = mode; sources = sources; names = names } }
+{
+    Limits {
+        mode,
+        sources,
+        names,
+    }
+}
+
 // Token by token, while there is a place.
-fn decode_in(mode: Mode, text: &[u8], sources: u32, names: u32, table: &mut [u32]) -> Decoded
-    ensures { Decodes mode sources names text.now table.old result table.new }
+fn decode_in(limits: Limits, text: &[u8], table: &mut [u32]) -> Decoded
+    ensures { Decodes limits.mode limits.sources limits.names text.now table.old result table.new }
 {
     let room = token::places_in(table.len());
     let mut s = step::next_segment(text, State::default());
     let mut tokens: usize = 0;
     loop {
-        match step::take_segment(text, mode, sources, names, s) {
+        match step::take_segment(text, limits, s) {
             Ok(None) => return ended(Ok(()), tokens, text.len()),
             Err(r) => return ended(Err(r.code), tokens, r.offset),
             Ok(Some((t, begin, after))) => {
@@ -64,7 +74,7 @@ fn decode_in(mode: Mode, text: &[u8], sources: u32, names: u32, table: &mut [u32
 pub fn decode_lenient(text: &[u8], sources: u32, names: u32, table: &mut [u32]) -> Decoded
     ensures { Decodes Mode.Lenient sources names text.now table.old result table.new }
 {
-    decode_in(Mode::Lenient, text, sources, names, table)
+    decode_in(limits(Mode::Lenient, sources, names), text, table)
 }
 
 // Checked: each value is the standard's, and one that is too wide, or a column, a source position or a name sum that leaves 32 bits,
@@ -72,7 +82,7 @@ pub fn decode_lenient(text: &[u8], sources: u32, names: u32, table: &mut [u32]) 
 pub fn decode_checked(text: &[u8], sources: u32, names: u32, table: &mut [u32]) -> Decoded
     ensures { Decodes Mode.Checked sources names text.now table.old result table.new }
 {
-    decode_in(Mode::Checked, text, sources, names, table)
+    decode_in(limits(Mode::Checked, sources, names), text, table)
 }
 
 // The decode that names no mode is checked.

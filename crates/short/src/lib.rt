@@ -7,7 +7,7 @@ ghost use Rattle.std.specs.Prelude.{◌≡◌, ◌+◌, ◌-◌, ◌*◌, ◌^�
 ghost use Rattle.list.specs.Pick.{pick};
 ghost use Rattle.short.specs.Short.{Bytes, Ones, Stepping, Reading, move_of, Three, Shaped, Stepped, Nears, Fit};
 
-use apply::State;
+use apply::{Limits, State};
 
 // How many fields there are, and how many bytes they take. A step is 16 more than a
 // value: in `steps` a byte for the first field and, as its third byte, one for the third; `col` for the fourth and `name` for the
@@ -207,15 +207,15 @@ fn most(k: usize, names: u32) -> u64
 }
 
 // Whether every sum may be taken.
-pub fn fits(n: Near, k: usize, sources: u32, names: u32) -> bool
-    ensures { result ≡ true → Fit n k sources names }
+pub fn fits(n: Near, k: usize, limits: Limits) -> bool
+    ensures { result ≡ true → Fit n k limits.sources limits.names }
 {
-    if most(k, names) <= n.name_id {
+    if most(k, limits.names) <= n.name_id {
         return false;
     }
     let all = n.dst_col | n.src_line | n.src_col;
     if 4294967296 <= all {
         return false;
     }
-    n.source_id < sources as u64
+    n.source_id < limits.sources as u64
 }

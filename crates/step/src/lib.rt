@@ -9,11 +9,10 @@ ghost use Rattle.step.specs.Step.{commaed, lined, step_at};
 ghost use Rattle.step.specs.Ways.{told, segmented_at, offset_in, stepped_in, taken_at, short_step, Opens, Closes, Passed};
 ghost use Rattle.short.specs.Short.{Fit};
 
-use apply::{About, Refusal, State};
+use apply::{About, Limits, Refusal, State};
 use code::Code;
 use short::Near;
 use token::Token;
-use value::Mode;
 
 // Why the next segment is not taken, and where the fault lies.
 #[derive(Clone, Copy)]
@@ -57,28 +56,24 @@ fn step_of(
 // The segment at the state's place, read and taken.
 fn take(
     s: &[u8],
-    mode: Mode,
-    sources: u32,
-    names: u32,
+    limits: Limits,
     st: State,
 ) -> Result<(Token, State), Refusal>
-    ensures { result ≡ taken_at mode sources names s.now st }
+    ensures { result ≡ taken_at limits.mode limits.sources limits.names s.now st }
 {
-    let g = segment::parse_vlq_segment(s, mode, st.at)?;
-    apply::apply_segment(mode, sources, names, st, g)
+    let g = segment::parse_vlq_segment(s, limits.mode, st.at)?;
+    apply::apply_segment(limits, st, g)
 }
 
 // A segment in general.
 fn general_step(
     s: &[u8],
-    mode: Mode,
-    sources: u32,
-    names: u32,
+    limits: Limits,
     st: State,
 ) -> Result<Option<(Token, usize, State)>, Refused>
-    ensures { result ≡ told (segmented_at mode sources names s.now st) }
+    ensures { result ≡ told (segmented_at limits.mode limits.sources limits.names s.now st) }
 {
-    step_of(s, st.at, take(s, mode, sources, names, st))
+    step_of(s, st.at, take(s, limits, st))
 }
 
 fn shown_name(k: usize, name_id: u32) -> u32
@@ -95,10 +90,9 @@ fn short_step(
     n: Near,
     k: usize,
     len: usize,
-    sources: u32,
-    names: u32,
+    limits: Limits,
 ) -> (Token, usize, State)
-    requires { Fit n k sources names × (st.at + len < 2 ^ 64) }
+    requires { Fit n k limits.sources limits.names × (st.at + len < 2 ^ 64) }
     ensures { Ok (Some result) ≡ told (short_step st n k len) }
 {
     let after = State {
@@ -125,24 +119,22 @@ fn short_step(
 // One segment: by the short way where its tests hold, else, and for every refusal, in general.
 fn segment_step(
     s: &[u8],
-    mode: Mode,
-    sources: u32,
-    names: u32,
+    limits: Limits,
     st: State,
 ) -> Result<Option<(Token, usize, State)>, Refused>
     requires { st.at < length s.now }
-    ensures { result ≡ told (segmented_at mode sources names s.now st) }
+    ensures { result ≡ told (segmented_at limits.mode limits.sources limits.names s.now st) }
 {
     let at = st.at;
     if at + 6 <= s.len() {
         if let Some(shape) = short::try_fast_4_or_5_segment(s, at) {
             let n = short::near_all(shape, st);
-            if short::fits(n, shape.fields, sources, names) {
-                return Ok(Some(short_step(st, n, shape.fields, shape.len, sources, names)));
+            if short::fits(n, shape.fields, limits) {
+                return Ok(Some(short_step(st, n, shape.fields, shape.len, limits)));
             }
         }
     }
-    general_step(s, mode, sources, names, st)
+    general_step(s, limits, st)
 }
 
 // `,` or `;`. Most segments begin with a letter, which is above both.
@@ -204,16 +196,14 @@ pub fn next_after(s: &[u8], st: State) -> State
 // end.
 pub fn take_segment(
     s: &[u8],
-    mode: Mode,
-    sources: u32,
-    names: u32,
+    limits: Limits,
     st: State,
 ) -> Result<Option<(Token, usize, State)>, Refused>
     requires { Opens s.now st }
-    ensures { result ≡ told (step_at mode sources names s.now st) }
+    ensures { result ≡ told (step_at limits.mode limits.sources limits.names s.now st) }
 {
     if st.at < s.len() {
-        return segment_step(s, mode, sources, names, st);
+        return segment_step(s, limits, st);
     }
     Ok(None)
 }

@@ -1,5 +1,5 @@
 -- `short::fits` meets its contract. Assumes nothing.
-use Rattle.std.proofs.Common.{◌≡◌, true, false, T, sym, subst, ltb-true}
+use Rattle.std.proofs.Common.{◌≡◌, true, false, T, sym, subst, ltb-true, arith}
 use Rattle.short.proofs.Laws.{fit}
 use Rattle.short.proofs.fits.Goals as goal
 
@@ -14,5 +14,5 @@ returns-then-all-ge4294967296 c = λ w. absurd (no_true w)
 
 pub returns : goal.returns
 returns c =
-    λ w. fit c.args.n c.args.k c.args.sources c.args.names _ c.most.ensures c.ranges.names.fits
+    λ w. fit c.args.n c.args.k c.args.limits.sources c.args.limits.names _ c.most.ensures (omega arith)
     c.if-all-ge4294967296.false (ltb-true _ _ w) c.if-most-n.false

@@ -4,4 +4,4 @@ use Rattle.step.proofs.Laws.{general}
 use Rattle.step.proofs.general_step.Goals as goal
 
 pub returns : goal.returns
-returns c = rw (c.step_of.ensures, c.take.ensures) (general c.args.mode c.args.sources c.args.names c.args.s.now c.args.st)
+returns c = rw (c.step_of.ensures, c.take.ensures) (general c.args.limits.mode c.args.limits.sources c.args.limits.names c.args.s.now c.args.st)

@@ -4,12 +4,11 @@ use mathlib.Core.Bool.{Bool, true, false}
 use mathlib.Core.List.{List, [], append-nil}
 use Prim.Native.Nat.{ℕ, ◌*◌}
 use native.Mathlib.Omega.{arith}
-use lib.Dec.{eqb}
 use lib.ListN.{length, drop_of_length-le}
 use borrow.Author.Tests.{le-ltb}
 use Rattle.list.specs.Memory.{onto}
 use Rattle.list.specs.Pick.{pick}
-use Rattle.code.specs.Code.{code_of}
+use Rattle.std.specs.Prelude.{Result, is_ok, ⊤}
 use Rattle.code.specs.declared.Code.{Code}
 use Rattle.token.specs.Table.{width, places, bad_table, tokens_from, tokens_of, flat, over}
 use Rattle.token.specs.declared.Token.{Token}
@@ -17,8 +16,7 @@ use Rattle.token.proofs.Laws.{length_flat, length_tokens, tokens_flat}
 use Rattle.translate.specs.Translate.{all_moved, translates_to, Translates}
 use Rattle.translate.proofs.Moving.{length_moved}
 use Rattle.token.proofs.Whole.{few, flat_tokens, whole_tokens}
-use Rattle.records.specs.Records.{records_to, answer_of, TranslatesRecords}
-use Rattle.records.specs.declared.Answer.{Answer}
+use Rattle.records.specs.Records.{records_to, TranslatesRecords}
 
 -- ---- tokens of a table that has nothing past its last token, as numbers again
 whole : (xs : List ℕ) → bad_table (length xs) ≡ false → length xs ≡ width * places (length xs)
@@ -49,15 +47,15 @@ module _ (line source name : ℕ) (xs : List ℕ) (e : bad_table (length xs) ≡
       over_all (all_moved line source name (tokens_of xs)) xs
       (omega (arith, whole xs e, length_moved line source name (tokens_of xs), length_tokens xs 0 (places (length xs))))
 
-  -- on a table and on its tokens: the same code and number, and the slice's records are the tokens of the table that is left
-  pub agree : {r : Code} {xs' : List ℕ} {a : Answer} {ts' : List Token}
+  -- on a table and on its tokens: the same answer, and the slice's records are the tokens of the table that is left
+  pub agree : {r : Result ⊤ Code} {xs' : List ℕ} {a : Result ⊤ Code} {ts' : List Token}
       → Translates line source name xs r xs' → TranslatesRecords line source name (tokens_of xs) a ts'
-      → (a ≡ answer_of r) × ((xs' ≡ flat ts') × (tokens_of xs' ≡ ts'))
-  agree {r} {xs'} {a} {ts'} t u = (u.says ∙ ap answer_of (same_code ∙ sym t.says), (f, ap tokens_of f ∙ tokens_of_flat ts'))
+      → (a ≡ r) × ((xs' ≡ flat ts') × (tokens_of xs' ≡ ts'))
+  agree {r} {xs'} {a} {ts'} t u = (u.says ∙ same_code ∙ sym t.says, (f, ap tokens_of f ∙ tokens_of_flat ts'))
     where
       f : xs' ≡ flat ts'
       f =
           t.wrote
-          ∙ ap (λ (c : Code). pick (eqb (code_of c) 0) (over (all_moved line source name (tokens_of xs)) xs) xs) (sym same_code)
-          ∙ pick_flat (eqb (code_of (records_to line source name (tokens_of xs))) 0) (over (all_moved line source name (tokens_of xs)) xs) xs (all_moved line source name (tokens_of xs)) (tokens_of xs) same_numbers (sym (flat_tokens xs e))
+          ∙ ap (λ (c : Result ⊤ Code). pick (is_ok c) (over (all_moved line source name (tokens_of xs)) xs) xs) (sym same_code)
+          ∙ pick_flat (is_ok (records_to line source name (tokens_of xs))) (over (all_moved line source name (tokens_of xs)) xs) xs (all_moved line source name (tokens_of xs)) (tokens_of xs) same_numbers (sym (flat_tokens xs e))
           ∙ ap flat (sym u.wrote)

@@ -1,24 +1,23 @@
--- Translating a list of records: what each loop knows, what each answer says, and that there is one. Assumes nothing.
+-- Translating a list of records: what the loop that moves knows, and that there is one answer. Assumes nothing.
 use mathlib.Core.Path.{◌≡◌, refl, sym, ◌∙◌, ap}
-use mathlib.Core.Bool.{true, false}
+use mathlib.Core.Bool.{Bool, true, false}
 use mathlib.Core.List.{List, [], ◌∷◌, ◌++◌, map, map-append, append-nil}
-use Prim.Native.Nat.{ℕ, suc, ◌+◌, ◌≤◌, ◌<◌, zero-le}
+use Prim.Native.Nat.{ℕ, zero, suc, ◌+◌, ◌≤◌, ◌<◌}
 use native.Mathlib.Numerals.{add-one}
 use native.Mathlib.Omega.{arith}
-use lib.Dec.{eqb}
+use lib.Dec.{ltb}
 use lib.ListN.{length, get_or, set, take, drop, length-append, length-map, length-drop}
 use lib.Seq.{drop-cons, take-suc, take-length, drop-length, length-take-le, get_or_at, set_at, append_snoc}
-use borrow.Author.Count.{below_none, below_more}
 use borrow.Author.Tests.{lt-ltb, le-ltb}
+use Rattle.std.specs.Prelude.{Option, Some, None, Result, Ok, Err, ⊤}
 use Rattle.list.specs.Pick.{pick}
-use Rattle.code.specs.Code.{code_of}
 use Rattle.code.specs.declared.Code.{Code}
 use Rattle.token.specs.declared.Token.{Token}
 use Rattle.translate.specs.Translate.{too_big, moved, all_moved, first_too_big, unless_too_big}
+use Rattle.translate.specs.Looks.{Looks}
 use Rattle.translate.proofs.Scan.{first_here, first_on}
-use Rattle.translate.proofs.Pass.{none_first}
-use Rattle.records.specs.Records.{records_to, answer_of, TranslatesRecords}
-use Rattle.records.specs.declared.Answer.{Answer}
+use Rattle.translate.proofs.Whole.{answer_is}
+use Rattle.records.specs.Records.{records_to, TranslatesRecords}
 
 -- what stands past a list's end
 abbrev pub no_token : Token
@@ -52,58 +51,42 @@ all_map line source name [] = refl
 all_map line source name (t ∷ ts) = ap (λ (r : List Token). moved line source name t ∷ r) (all_map line source name ts)
 
 module _ (line source name : ℕ) (ts : List Token) where
-  -- an answer is its code's, and the list is translated where that is 0
-  answered : (c : Code) (ts' : List Token) → records_to line source name ts ≡ c → ts' ≡ pick (eqb (code_of c) 0) (all_moved line source name ts) ts
-      → TranslatesRecords line source name ts (answer_of c) ts'
-  answered c ts' e w =
-      record { says = ap answer_of (sym e); wrote = w ∙ ap (λ (d : Code). pick (eqb (code_of d) 0) (all_moved line source name ts) ts) (sym e) }
-
-  pub too_many : 4294967294 < length ts → TranslatesRecords line source name ts (record { code = 11; number = 0 }) ts
+  pub too_many : 4294967294 < length ts → Err Code.BadTable ≡ records_to line source name ts
   unfolding records_to
-  too_many h = answered Code.BadTable ts (rw (lt-ltb 4294967294 (length ts) h)) refl
+  too_many h = rw (lt-ltb 4294967294 (length ts) h)
 
-  -- no record is too big
-  pub cleared : length ts ≤ 4294967294 → ((k : ℕ) → k < length ts → too_big line source name (get_or ts k no_token) ≡ false) → records_to line source name ts ≡ Code.Done
+  pub looked : (P : ℕ → Token → Type 0) → length ts ≤ 4294967294 → (r : Result ⊤ Code) → Looks P line source name (length ts) r
+      → ((k : ℕ) (t : Token) → k < length ts → P k t → t ≡ get_or ts k no_token) → r ≡ records_to line source name ts
   unfolding records_to
-  cleared few small = rw (le-ltb 4294967294 (length ts) few) (ap unless_too_big (none_first line source name no_token 0 ts small))
+  looked P few r l reads = rw (le-ltb 4294967294 (length ts) few) (answer_is line source name no_token P ts (length ts) refl reads r l)
 
-  pub translated : records_to line source name ts ≡ Code.Done → TranslatesRecords line source name ts (record { code = 0; number = 0 }) (map (moved line source name) ts)
-  translated e = answered Code.Done (map (moved line source name) ts) e (all_map line source name ts)
+  none_if : (b : Bool) (o : Option ℕ) → Ok tt ≡ pick b (Err Code.BadTable) (unless_too_big o) → o ≡ None
+  none_if true o e = absurd (cc)
+  none_if false None e = refl
+  none_if false (Some i) e = absurd (cc)
 
-  -- no token before the i-th is too big
-  pub record Passed (i : ℕ) : Type 0 where
-    pub within : i ≤ length ts
-    pub rest : first_too_big line source name 0 ts ≡ first_too_big line source name i (drop i ts)
-    pub small : (k : ℕ) → k < i → too_big line source name (get_or ts k no_token) ≡ false
+  pub none_big : Ok tt ≡ records_to line source name ts → first_too_big line source name 0 ts ≡ None
+  unfolding records_to
+  none_big e = none_if (ltb 4294967294 (length ts)) (first_too_big line source name 0 ts) e
 
-  pub start : Passed 0
-  start = record { within = zero-le; rest = refl; small = below_none (λ (k : ℕ). too_big line source name (get_or ts k no_token) ≡ false) }
+  pub done : Ok tt ≡ records_to line source name ts → (ts' : List Token) → ts' ≡ all_moved line source name ts → TranslatesRecords line source name ts (Ok tt) ts'
+  done e ts' w = record { says = e; wrote = rw (← e) w }
 
-  module _ (i : ℕ) (p : Passed i) where
-    pub passed : i < length ts → too_big line source name (get_or ts i no_token) ≡ false → Passed (i + 1)
-    passed h e =
-        record {
-          within = omega arith;
-          rest =
-              p.rest
-              ∙ ap (first_too_big line source name i) (drop-cons ts i no_token h)
-              ∙ first_on line source name i (get_or ts i no_token) (drop (suc i) ts) e
-              ∙ ap (λ (k : ℕ). first_too_big line source name (i + 1) (drop k ts)) (sym (add-one i));
-          small = below_more (λ (k : ℕ). too_big line source name (get_or ts k no_token) ≡ false) i p.small e;
-        }
+  pub refused : (c : Code) → Err c ≡ records_to line source name ts → TranslatesRecords line source name ts (Err c) ts
+  refused c e = record { says = e; wrote = rw (← e) }
 
-    module _ (few : length ts ≤ 4294967294) where
-      is_first : records_to line source name ts ≡ unless_too_big (first_too_big line source name i (drop i ts))
-      unfolding records_to
-      is_first = rw (le-ltb 4294967294 (length ts) few) (ap unless_too_big p.rest)
+-- where none is the first that is too big, none is
+module _ (line source name : ℕ) where
+  head : (i : ℕ) (t : Token) (ts : List Token) (b : Bool) → too_big line source name t ≡ b → first_too_big line source name i (t ∷ ts) ≡ None → too_big line source name t ≡ false
+  head i t ts true e n = absurd (let c : Some i ≡ None = sym (first_here line source name i t ts e) ∙ n in cc)
+  head i t ts false e n = e
 
-      pub found : i < length ts → too_big line source name (get_or ts i no_token) ≡ true
-          → TranslatesRecords line source name ts (record { code = 12; number = i }) ts
-      found h e =
-          answered (Code.TooBig i) ts
-          (is_first ∙ ap unless_too_big (ap (first_too_big line source name i) (drop-cons ts i no_token h) ∙ first_here line source name i (get_or ts i no_token) (drop (suc i) ts) e))
-          refl
+  pub all_small : (i : ℕ) (ts : List Token) → first_too_big line source name i ts ≡ None → (k : ℕ) → k < length ts → too_big line source name (get_or ts k no_token) ≡ false
+  all_small i [] n k h = absurd (omega arith)
+  all_small i (t ∷ ts) n zero h = head i t ts (too_big line source name t) refl n
+  all_small i (t ∷ ts) n (suc k) h =
+      all_small (i + 1) ts (sym (first_on line source name i t ts (head i t ts (too_big line source name t) refl n)) ∙ n) k (omega arith)
 
-pub one_answer : {line source name : ℕ} {ts : List Token} {r q : Answer} {t u : List Token}
+pub one_answer : {line source name : ℕ} {ts : List Token} {r q : Result ⊤ Code} {t u : List Token}
     → TranslatesRecords line source name ts r t → TranslatesRecords line source name ts q u → (r ≡ q) × (t ≡ u)
 one_answer a b = (a.says ∙ sym b.says, a.wrote ∙ sym b.wrote)

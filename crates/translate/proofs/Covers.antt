@@ -15,6 +15,10 @@ or_left a b = omega (arith, or_add_and a b, and_le_r a b)
 or_right : (a b : ℕ) → b ≤ bit_or a b
 or_right a b = omega (arith, or_add_and a b, and_le_l a b)
 
+-- the zeros
+pub zeros : (c : Cover) → (c.line ≡ 0) × ((c.source ≡ 0) × (c.name ≡ 0)) → c ≡ no_cover
+zeros c e = let a = e.0 in let b = e.1.0 in let d = e.1.1 in rw (a, b, d)
+
 pub is_with : (c : Cover) (t : Token) (s n : ℕ) → s ≡ from_one t.source_id → n ≡ from_one t.name_id
     → record { line = bit_or c.line t.dst_line; source = bit_or c.source s; name = bit_or c.name n } ≡ cover_with c t
 unfolding cover_with

@@ -1,6 +1,6 @@
 -- The second loop: at turn i the tokens before the i-th are moved, and the others are as they were. Assumes nothing.
 use Rattle.std.proofs.Common.{◌≡◌, ℕ, suc, ◌+◌, ◌-◌, ◌*◌, ◌<◌, ◌≤◌, Bool, true, false, List, [], ◌∷◌, ◌++◌, length, get_or, drop, sym, refl, ap, ◌∙◌, ap₂, zero-add, arith, get_or-drop, get_or-append-add}
-use mathlib.Core.Option.{none, some}
+use Rattle.std.specs.Prelude.{Some, None}
 use native.Mathlib.Nat.{sub-zero}
 use Rattle.list.specs.Memory.{onto}
 use Rattle.list.proofs.Memory.{onto_nil}
@@ -48,8 +48,8 @@ module _ (line source name : ℕ) where
   moved_one t = refl
 
   -- where no token is too big, the first is not
-  not_first : (i : ℕ) (t : Token) (ts : List Token) (b : Bool) → too_big line source name t ≡ b → first_too_big line source name i (t ∷ ts) ≡ none → b ≡ false
-  not_first i t ts true e n = let c : some i ≡ none = sym (first_here line source name i t ts e) ∙ n in let z : ◌≡◌ {A = ℕ} 0 1 = cc in absurd (omega arith)
+  not_first : (i : ℕ) (t : Token) (ts : List Token) (b : Bool) → too_big line source name t ≡ b → first_too_big line source name i (t ∷ ts) ≡ None → b ≡ false
+  not_first i t ts true e n = let c : Some i ≡ None = sym (first_here line source name i t ts e) ∙ n in let z : ◌≡◌ {A = ℕ} 0 1 = cc in absurd (omega arith)
   not_first i t ts false e n = refl
 
   one_more : (table : List ℕ) (i : ℕ) → tokens_from table 0 (i + 1) ≡ tokens_from table 0 i ++ (token_at table i ∷ [])
@@ -67,9 +67,9 @@ module _ (line source name : ℕ) where
     pub counted : all ≡ places (length before)
     pub within : i ≤ all
     pub wrote : table ≡ over (all_moved line source name (tokens_from before 0 i)) before
-    pub rest : first_too_big line source name i (tokens_from before i (all - i)) ≡ none
+    pub rest : first_too_big line source name i (tokens_from before i (all - i)) ≡ None
 
-  pub start : (before : List ℕ) (all : ℕ) → first_too_big line source name 0 (tokens_of before) ≡ none → all ≡ places (length before) → Moving before before all 0
+  pub start : (before : List ℕ) (all : ℕ) → first_too_big line source name 0 (tokens_of before) ≡ None → all ≡ places (length before) → Moving before before all 0
   unfolding all_moved tokens_from flat
   start before all e ea =
       record {
@@ -96,7 +96,7 @@ module _ (line source name : ℕ) where
         same : t ≡ token_at before i
         same = et ∙ ap (λ (l : List ℕ). token_at l i) f.wrote ∙ token_past (front before i) before i (omega (arith, length_front before i))
 
-        rest_on : first_too_big line source name i (t ∷ tokens_from before (i + 1) (all - (i + 1))) ≡ none
+        rest_on : first_too_big line source name i (t ∷ tokens_from before (i + 1) (all - (i + 1))) ≡ None
         rest_on = ap (first_too_big line source name i) (sym (tokens_step before i all t same h)) ∙ f.rest
 
         pub fine : too_big line source name t ≡ false

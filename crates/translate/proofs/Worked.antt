@@ -1,5 +1,6 @@
 -- Worked cases at the edges, computed from the definitions. Assumes nothing.
 use Rattle.std.proofs.Common.{◌≡◌, ℕ, true, false, [], ◌∷◌, refl}
+use Rattle.std.specs.Prelude.{Err}
 use Rattle.code.specs.declared.Code.{Code}
 use Rattle.token.specs.Table.{no_id, no_segment, token, token_at, tokens_from}
 use Rattle.token.specs.declared.Token.{Token}
@@ -33,10 +34,10 @@ unfolding too_big moved
 none_stays = (refl, refl)
 
 -- the index of the first token that is too big
-second_too_big : translates_to 0 1 0 (0 ∷ 0 ∷ 0 ∷ 0 ∷ no_id ∷ no_id ∷ no_segment ∷ 0 ∷ 0 ∷ 0 ∷ 0 ∷ 4294967294 ∷ no_id ∷ 3 ∷ 0 ∷ 0 ∷ 0 ∷ 0 ∷ 4294967294 ∷ no_id ∷ 8 ∷ []) ≡ Code.TooBig 1
+second_too_big : translates_to 0 1 0 (0 ∷ 0 ∷ 0 ∷ 0 ∷ no_id ∷ no_id ∷ no_segment ∷ 0 ∷ 0 ∷ 0 ∷ 0 ∷ 4294967294 ∷ no_id ∷ 3 ∷ 0 ∷ 0 ∷ 0 ∷ 0 ∷ 4294967294 ∷ no_id ∷ 8 ∷ []) ≡ Err (Code.TooBig 1)
 unfolding translates_to first_too_big too_big tokens_from token_at
 second_too_big = refl
 
-short_table : translates_to 0 1 0 (0 ∷ 0 ∷ 0 ∷ 0 ∷ no_id ∷ no_id ∷ []) ≡ Code.BadTable
+short_table : translates_to 0 1 0 (0 ∷ 0 ∷ 0 ∷ 0 ∷ no_id ∷ no_id ∷ []) ≡ Err Code.BadTable
 unfolding translates_to
 short_table = refl

@@ -1,8 +1,6 @@
 -- docs/RULES.md, Translating. Assumes nothing.
-use Rattle.std.specs.Prelude.{◌≡◌, ℕ, ◌+◌, Bool, true, false, List, [], ◌∷◌, length, ◌==◌, nat_le, nat_lt}
-use Rattle.std.proofs.Math.Option.{Option, none, some}
+use Rattle.std.specs.Prelude.{◌≡◌, ℕ, ◌+◌, Bool, true, false, List, [], ◌∷◌, length, nat_le, nat_lt, Option, Some, None, Result, Ok, Err, is_ok, ⊤}
 use Rattle.list.specs.Pick.{pick}
-use Rattle.code.specs.Code.{code_of}
 use Rattle.code.specs.declared.Code.{Code}
 use Rattle.token.specs.Table.{token, is_none, bad_table, tokens_of, over}
 use Rattle.token.specs.declared.Token.{Token}
@@ -32,19 +30,19 @@ all_moved line source name (t ∷ ts) = moved line source name t ∷ all_moved l
 
 -- the first token that is too big, counted from i
 unfoldable pub first_too_big : ℕ → ℕ → ℕ → ℕ → List Token → Option ℕ
-first_too_big line source name i [] = none
-first_too_big line source name i (t ∷ ts) = pick (too_big line source name t) (some i) (first_too_big line source name (i + 1) ts)
+first_too_big line source name i [] = None
+first_too_big line source name i (t ∷ ts) = pick (too_big line source name t) (Some i) (first_too_big line source name (i + 1) ts)
 
-abbrev pub unless_too_big : Option ℕ → Code
-unless_too_big none = Code.Done
-unless_too_big (some i) = Code.TooBig i
+abbrev pub unless_too_big : Option ℕ → Result ⊤ Code
+unless_too_big None = Ok tt
+unless_too_big (Some i) = Err (Code.TooBig i)
 
 -- over a whole table
-unfoldable pub translates_to : ℕ → ℕ → ℕ → List ℕ → Code
+unfoldable pub translates_to : ℕ → ℕ → ℕ → List ℕ → Result ⊤ Code
 translates_to line source name table =
-    pick (bad_table (length table)) Code.BadTable (unless_too_big (first_too_big line source name 0 (tokens_of table)))
+    pick (bad_table (length table)) (Err Code.BadTable) (unless_too_big (first_too_big line source name 0 (tokens_of table)))
 
--- a table's translation: the code, and what the lent table holds then
-pub record Translates (line source name : ℕ) (table : List ℕ) (r : Code) (table' : List ℕ) : Type 0 where
+-- a table's translation: whether it is done, and what the lent table holds then
+pub record Translates (line source name : ℕ) (table : List ℕ) (r : Result ⊤ Code) (table' : List ℕ) : Type 0 where
   pub says : r ≡ translates_to line source name table
-  pub wrote : table' ≡ pick (code_of (translates_to line source name table) == 0) (over (all_moved line source name (tokens_of table)) table) table
+  pub wrote : table' ≡ pick (is_ok (translates_to line source name table)) (over (all_moved line source name (tokens_of table)) table) table

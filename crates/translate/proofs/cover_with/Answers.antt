@@ -3,4 +3,4 @@ use Rattle.translate.proofs.Covers.{is_with}
 use Rattle.translate.proofs.cover_with.Goals as goal
 
 pub returns : goal.returns
-returns c = is_with _ c.args.t _ _ c.from_one-source.ensures c.from_one-name.ensures
+returns c = is_with _ c.args.t _ _ c.from_one.ensures c.from_one-2.ensures

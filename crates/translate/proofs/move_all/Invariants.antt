@@ -1,10 +1,8 @@
 -- `translate::move_all` meets its contract, by the laws of `Moving`. Assumes nothing.
-use Rattle.std.proofs.Common.{◌-◌}
+use lib.ListN.{length}
+use Rattle.token.specs.Table.{places}
 use Rattle.translate.proofs.Moving.{Moving}
 use Rattle.translate.proofs.move_all.Given as goal
 
 abbrev pub invariant-loop-i : goal.invariant-loop-i
-invariant-loop-i l = Moving l.line l.source l.name l.initial.table l.table l.places l.i
-
-abbrev pub decreases-loop-i : goal.decreases-loop-i
-decreases-loop-i l = l.places - l.i
+invariant-loop-i l = Moving l.by.line l.by.source l.by.name l.initial.table l.table (places (length l.initial.table)) l.i

@@ -3,14 +3,14 @@ use Rattle.std.proofs.Common.{arith}
 use Rattle.translate.proofs.One.{small, is_moved}
 use Rattle.translate.proofs.moved.Goals as goal
 
-pub id_moved-source_id-requires : goal.id_moved-source_id-requires
-id_moved-source_id-requires c = (small c.args.line c.args.source c.args.name c.args.t c.requires).from
-
-pub id_moved-name_id-requires : goal.id_moved-name_id-requires
-id_moved-name_id-requires c = (small c.args.line c.args.source c.args.name c.args.t c.requires).called
-
 pub overflow_add-result : goal.overflow_add-result
-overflow_add-result c = omega (arith, (small c.args.line c.args.source c.args.name c.args.t c.requires).on)
+overflow_add-result c = omega (arith, (small c.args.by.line c.args.by.source c.args.by.name c.args.t c.requires).on)
+
+pub id_moved-requires : goal.id_moved-requires
+id_moved-requires c = (small c.args.by.line c.args.by.source c.args.by.name c.args.t c.requires).from
+
+pub id_moved-requires-2 : goal.id_moved-requires-2
+id_moved-requires-2 c = (small c.args.by.line c.args.by.source c.args.by.name c.args.t c.requires).called
 
 pub returns : goal.returns
-returns c = is_moved c.args.line c.args.source c.args.name c.args.t _ _ c.id_moved-source_id.ensures c.id_moved-name_id.ensures
+returns c = is_moved c.args.by.line c.args.by.source c.args.by.name c.args.t _ _ c.id_moved.ensures c.id_moved-2.ensures

@@ -1,10 +1,6 @@
 -- `translate::none_too_big` meets its contract, by the laws of `Pass`. Assumes nothing.
-use Rattle.std.proofs.Common.{◌-◌}
-use Rattle.translate.proofs.Pass.{Passing}
+use Rattle.translate.proofs.Pass.{Laid}
 use Rattle.translate.proofs.none_too_big.Given as goal
 
 abbrev pub invariant-loop-i : goal.invariant-loop-i
-invariant-loop-i l = Passing l.line l.source l.name l.table l.places l.other l.half l.c l.i
-
-abbrev pub decreases-loop-i : goal.decreases-loop-i
-decreases-loop-i l = l.half - l.i
+invariant-loop-i g l = Laid (λ k t. goal.F-post g l.at k t) l.by.line l.by.source l.by.name l.other l.c l.i

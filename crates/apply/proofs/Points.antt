@@ -1,24 +1,22 @@
 -- What a refusal of a segment is about: the whole of it, or a field that it has. Assumes nothing.
+use Rattle.std.specs.Prelude.{Option, Some, None, Result, Ok, Err}
 use mathlib.Core.Bool.{Bool, true, false}
 use mathlib.Core.Path.{◌≡◌, refl}
 use Prim.Native.Nat.{ℕ, ◌%◌, ◌^◌, ◌<◌}
 use native.Mathlib.Omega.{arith}
 use lib.Dec.{eqb, ltb}
 use lib.IntN.{pos, ◌+ℤ◌}
-use borrow.Author.Tests.{eqb-true, ltb-true}
+use borrow.Author.Tests.{eqb-true}
 use Rattle.list.specs.Pick.{pick}
 use Rattle.code.specs.declared.Code.{Code}
 use Rattle.token.specs.Table.{no_id}
 use Rattle.value.specs.declared.Mode.{Mode}
 use Rattle.segment.specs.declared.Segment.{Segment}
 use Rattle.sums.specs.Sums.{sum_of, id_of, name_sum_of}
-use Rattle.sums.specs.declared.Kept.{Kept}
-use Rattle.sums.specs.declared.Id.{Id}
 use Rattle.apply.specs.declared.State.{State}
 use Rattle.apply.specs.declared.About.{About}
-use Rattle.apply.specs.declared.Moved.{Moved}
-use Rattle.apply.specs.declared.Applied.{Applied}
-use Rattle.apply.specs.Apply.{with_column, with_source, with_name, kept, num, columned, sourced, mapped, named, shown, onward, four, five, counted, applied}
+use Rattle.apply.specs.Apply.{with_column, with_source, with_name, kept, num, columned, sourced, mapped, named, shown, onward, four, five, counted, unless_wide, applied, refusal, Moved, Applied}
+use Rattle.sums.specs.declared.Unkept.{Unkept}
 
 -- of a segment with so many fields; the first is spoken of even where there is none
 abbrev pub Pointed : ℕ → About → Type 0
@@ -27,38 +25,38 @@ Pointed count (About.Field field) = 0 < field → field < count
 Pointed count (About.Place place) = ⊥
 
 abbrev Moves : ℕ → Moved → Type 0
-Moves count (Moved.To s) = Unit {0}
-Moves count (Moved.No code about) = Pointed count about
+Moves count (Ok s) = Unit {0}
+Moves count (Err r) = Pointed count r.about
 
 abbrev pub Points : ℕ → Applied → Type 0
-Points count (Applied.Took t s) = Unit {0}
-Points count (Applied.Refused code about) = Pointed count about
+Points count (Ok (t, s)) = Unit {0}
+Points count (Err r) = Pointed count r.about
 
-kept_moves : (count : ℕ) (k : Kept) (field : ℕ) (go : ℕ → Moved) → (0 < field → field < count) → ((x : ℕ) → Moves count (go x)) → Moves count (kept k field go)
-kept_moves count Kept.Negative field go p h = p
-kept_moves count Kept.Wide field go p h = p
-kept_moves count (Kept.At x) field go p h = h x
+kept_moves : (count : ℕ) (k : Result ℕ Unkept) (field : ℕ) (go : ℕ → Moved) → (0 < field → field < count) → ((x : ℕ) → Moves count (go x)) → Moves count (kept k field go)
+kept_moves count (Err Unkept.Negative) field go p h = p
+kept_moves count (Err Unkept.Wide) field go p h = p
+kept_moves count (Ok x) field go p h = h x
 
-sourced_moves : (count : ℕ) (s : State) (i : Id) (go : ℕ → Moved) → 1 < count → ((x : ℕ) → Moves count (go x)) → Moves count (sourced s i go)
-sourced_moves count s Id.Outside go p h = λ _. p
-sourced_moves count s (Id.Is x) go p h = h x
+sourced_moves : (count : ℕ) (s : State) (i : Option ℕ) (go : ℕ → Moved) → 1 < count → ((x : ℕ) → Moves count (go x)) → Moves count (sourced s i go)
+sourced_moves count s None go p h = λ _. p
+sourced_moves count s (Some x) go p h = h x
 
 onward_points : (count : ℕ) (m : Moved) (go : State → Applied) → Moves count m → ((s : State) → Points count (go s)) → Points count (onward m go)
-onward_points count (Moved.To s) go e h = h s
-onward_points count (Moved.No code about) go e h = e
+onward_points count (Ok s) go e h = h s
+onward_points count (Err r) go e h = e
 
 module _ (mode : Mode) (sources names : ℕ) (g : Segment) where
   column : (count : ℕ) (s : State) → Moves count (columned mode s g)
   unfolding columned
   column count s =
-      kept_moves count (sum_of mode (pos s.dst_col +ℤ num 0 g)) 0 (λ x. Moved.To (with_column s x g.next)) (λ z. absurd (omega arith)) (λ x. tt)
+      kept_moves count (sum_of mode (pos s.dst_col +ℤ num 0 g)) 0 (λ x. Ok (with_column s x g.next)) (λ z. absurd (omega arith)) (λ x. tt)
 
   source : (count : ℕ) → 3 < count → (s : State) → Moves count (mapped mode sources s g)
   unfolding mapped
   source count l s = sourced_moves count s (id_of sources (pos s.source_id +ℤ num 1 g)) lined (omega arith) by_line
     where
       columns : ℕ → ℕ → Moved
-      columns x y = kept (sum_of mode (pos s.src_col +ℤ num 3 g)) 3 (λ z. Moved.To (with_source s x y z))
+      columns x y = kept (sum_of mode (pos s.src_col +ℤ num 3 g)) 3 (λ z. Ok (with_source s x y z))
 
       lined : ℕ → Moved
       lined x = kept (sum_of mode (pos s.src_line +ℤ num 2 g)) 2 (columns x)
@@ -66,26 +64,26 @@ module _ (mode : Mode) (sources names : ℕ) (g : Segment) where
       by_line : (x : ℕ) → Moves count (lined x)
       by_line x =
           kept_moves count (sum_of mode (pos s.src_line +ℤ num 2 g)) 2 (columns x) (λ _. omega arith)
-          (λ y. kept_moves count (sum_of mode (pos s.src_col +ℤ num 3 g)) 3 (λ z. Moved.To (with_source s x y z)) (λ _. l) (λ z. tt))
+          (λ y. kept_moves count (sum_of mode (pos s.src_col +ℤ num 3 g)) 3 (λ z. Ok (with_source s x y z)) (λ _. l) (λ z. tt))
 
   name : (count : ℕ) → 4 < count → (s : State) → Moves count (named mode names s g)
   unfolding named
   name count l s =
       kept_moves count (name_sum_of mode (pos s.name_id +ℤ num 4 g)) 4
-      (λ x. pick (ltb x names) (Moved.To (with_name s x)) (Moved.No (Code.BadNameReference x) (About.Field 4)))
+      (λ x. pick (ltb x names) (Ok (with_name s x)) (Err (refusal (Code.BadNameReference x) (About.Field 4))))
       (λ _. l)
       (λ x. by x (ltb x names))
     where
-      by : (x : ℕ) (t : Bool) → Moves count (pick t (Moved.To (with_name s x)) (Moved.No (Code.BadNameReference x) (About.Field 4)))
+      by : (x : ℕ) (t : Bool) → Moves count (pick t (Ok (with_name s x)) (Err (refusal (Code.BadNameReference x) (About.Field 4))))
       by x true = tt
       by x false = λ _. l
 
   abbrev took_name : State → Applied
-  took_name q = Applied.Took (shown q q.source_id q.name_id) q
+  took_name q = Ok (shown q q.source_id q.name_id, q)
 
   by_four : 3 < g.count → (s : State) → Points g.count (four mode sources s g)
   unfolding four
-  by_four l s = onward_points g.count (mapped mode sources s g) (λ r. Applied.Took (shown r r.source_id no_id) r) (source g.count l s) (λ r. tt)
+  by_four l s = onward_points g.count (mapped mode sources s g) (λ r. Ok (shown r r.source_id no_id, r)) (source g.count l s) (λ r. tt)
 
   by_five : 4 < g.count → (s : State) → Points g.count (five mode sources names s g)
   unfolding five
@@ -99,19 +97,17 @@ module _ (mode : Mode) (sources names : ℕ) (g : Segment) where
     where
       by : (x y z : Bool) → eqb g.count 4 ≡ y → eqb g.count 5 ≡ z
           → Points g.count
-          (pick x (Applied.Took (shown s no_id no_id) s)
-          (pick y (four mode sources s g) (pick z (five mode sources names s g) (Applied.Refused (Code.BadSegmentSize (g.count % 2 ^ 32)) About.Whole))))
+          (pick x (Ok (shown s no_id no_id, s))
+          (pick y (four mode sources s g) (pick z (five mode sources names s g) (Err (refusal (Code.BadSegmentSize (g.count % 2 ^ 32)) About.Whole)))))
       by true y z p q = tt
       by false true z p q = by_four (omega (arith, eqb-true g.count 4 p)) s
       by false false true p q = by_five (omega (arith, eqb-true g.count 5 q)) s
       by false false false p q = tt
 
-  pub points : (g.wide < 5 → g.wide < g.count) → (s : State) → Points g.count (applied mode sources names s g)
+  pub points : ((m : ℕ) → g.wide ≡ Some m → m < g.count) → (s : State) → Points g.count (applied mode sources names s g)
   unfolding applied
-  points w s = by (ltb g.wide 5) refl
+  points w s = by g.wide refl
     where
-      by : (t : Bool) → ltb g.wide 5 ≡ t
-          → Points g.count
-          (pick t (Applied.Refused (Code.WideValue g.wide) (About.Field g.wide)) (onward (columned mode s g) λ r. counted mode sources names r g))
-      by true p = λ z. w (ltb-true g.wide 5 p)
-      by false p = onward_points g.count (columned mode s g) (λ r. counted mode sources names r g) (column g.count s) by_count
+      by : (o : Option ℕ) → g.wide ≡ o → Points g.count (unless_wide o (onward (columned mode s g) λ r. counted mode sources names r g))
+      by (Some field) e = λ _. w field e
+      by None e = onward_points g.count (columned mode s g) (λ r. counted mode sources names r g) (column g.count s) by_count

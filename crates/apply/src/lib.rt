@@ -1,19 +1,21 @@
 // What one segment does to the running numbers: steps 1 to 5 of docs/RULES.md, Mappings, in its order.
 #![tactic(auto)]
 
-ghost use Rattle.std.specs.Prelude.{◌≡◌};
-ghost use Rattle.apply.specs.Apply.{columned, mapped, named, shown, four, five, counted, applied};
-ghost use Rattle.apply.specs.Small.{Small};
+ghost use Rattle.std.specs.Prelude.{◌≡◌, Ok};
+ghost use Rattle.apply.specs.declared.About.{About};
+ghost use Rattle.apply.specs.Apply.{refusal, kept, columned, mapped, named, shown, four, five, counted, applied};
+ghost use Rattle.apply.specs.Small.{Small, broken};
 
 use code::Code;
 use segment::Segment;
-use sums::{Id, Kept};
+use sums::Unkept;
 use token::Token;
 use value::Mode;
+use vlq::Broken;
 
 // The six running numbers, and the place in the text. In this order the compiler makes no pair of them, and decode's loop has
 // fewer instructions.
-#[derive(Clone, Copy)]
+#[derive(Clone, Copy, Default)]
 pub struct State {
     pub dst_line: u32,
     pub src_line: u32,
@@ -32,16 +34,49 @@ pub enum About {
     Place(usize),
 }
 
+// Why a segment is not taken.
 #[derive(Clone, Copy)]
-pub enum Moved {
-    To(State),
-    No(Code, About),
+pub struct Refusal {
+    pub code: Code,
+    pub about: About,
 }
 
-#[derive(Clone, Copy)]
-pub enum Applied {
-    Took(Token, State),
-    Refused(Code, About),
+// A value that broke refuses its segment at the place where it did.
+impl From<Broken> for Refusal {
+    ghost from_gives = { λ b r. r ≡ broken b };
+
+    fn from(b: Broken) -> Refusal {
+        match b {
+            Broken::Leftover(place) => Refusal {
+                code: Code::VlqLeftover,
+                about: About::Place(place),
+            },
+            Broken::Overflow(place) => Refusal {
+                code: Code::VlqOverflow,
+                about: About::Place(place),
+            },
+        }
+    }
+}
+
+fn at_field(code: Code, field: u32) -> Refusal
+    ensures { result ≡ refusal code (About.Field field) }
+{
+    Refusal {
+        code,
+        about: About::Field(field),
+    }
+}
+
+// A sum that is kept, or the refusal of its field.
+fn kept(sum: Result<u32, Unkept>, field: u32) -> Result<u32, Refusal>
+    ensures { result ≡ kept sum field (λ n. Ok n) }
+{
+    match sum {
+        Ok(n) => Ok(n),
+        Err(Unkept::Negative) => Err(at_field(Code::BadSegmentSize(0), field)),
+        Err(Unkept::Wide) => Err(at_field(Code::WideValue(field), field)),
+    }
 }
 
 // The token that shows the running numbers with these ids. Where its segment begins is said when it is placed.
@@ -60,135 +95,120 @@ fn token_of(s: State, source_id: u32, name_id: u32) -> Token
 }
 
 // 1. The column; the place moves past the segment.
-fn column(mode: Mode, s: State, g: Segment) -> Moved
+#[tactic(auto, using(crate::proofs::Laws::held), unfolding(crate::specs::Apply::columned))]
+fn column(mode: Mode, s: State, g: Segment) -> Result<State, Refusal>
     requires { Small g }
     ensures { result ≡ columned mode s g }
 {
     let nums = g.nums;
-    let col = sums::advance(mode, s.dst_col, nums[0]);
-    match col {
-        Kept::Negative => Moved::No(Code::BadSegmentSize(0), About::Field(0)),
-        Kept::Wide => Moved::No(Code::WideValue(0), About::Field(0)),
-        Kept::At(dst_col) => {
-            let mut r = s;
-            r.dst_col = dst_col;
-            r.at = g.next;
-            Moved::To(r)
-        }
-    }
+    let dst_col = kept(sums::advance(mode, s.dst_col, nums[0]), 0)?;
+    Ok(State {
+        dst_col,
+        at: g.next,
+        ..s
+    })
 }
 
 // 3, 4. The source, then its line, then its column.
-fn source(mode: Mode, sources: u32, s: State, g: Segment) -> Moved
+#[tactic(auto, using(crate::proofs::Laws::held), unfolding(crate::specs::Apply::mapped))]
+fn source(mode: Mode, sources: u32, s: State, g: Segment) -> Result<State, Refusal>
     requires { Small g }
     ensures { result ≡ mapped mode sources s g }
 {
     let nums = g.nums;
-    let id = sums::source_after(s.source_id, nums[1], sources);
-    let Id::Is(source_id) = id else {
-        return Moved::No(Code::BadSourceReference(s.source_id), About::Field(1));
+    let Some(source_id) = sums::source_after(s.source_id, nums[1], sources) else {
+        return Err(at_field(Code::BadSourceReference(s.source_id), 1));
     };
-    let line = sums::advance(mode, s.src_line, nums[2]);
-    match line {
-        Kept::Negative => Moved::No(Code::BadSegmentSize(0), About::Field(2)),
-        Kept::Wide => Moved::No(Code::WideValue(2), About::Field(2)),
-        Kept::At(src_line) => {
-            let col = sums::advance(mode, s.src_col, nums[3]);
-            match col {
-                Kept::Negative => Moved::No(Code::BadSegmentSize(0), About::Field(3)),
-                Kept::Wide => Moved::No(Code::WideValue(3), About::Field(3)),
-                Kept::At(src_col) => {
-                    let mut r = s;
-                    r.source_id = source_id;
-                    r.src_line = src_line;
-                    r.src_col = src_col;
-                    Moved::To(r)
-                }
-            }
-        }
-    }
+    let src_line = kept(sums::advance(mode, s.src_line, nums[2]), 2)?;
+    let src_col = kept(sums::advance(mode, s.src_col, nums[3]), 3)?;
+    Ok(State {
+        source_id,
+        src_line,
+        src_col,
+        ..s
+    })
 }
 
 // 5. The name.
-fn name(mode: Mode, names: u32, s: State, g: Segment) -> Moved
+#[tactic(auto, using(crate::proofs::Laws::held), unfolding(crate::specs::Apply::named))]
+fn name(mode: Mode, names: u32, s: State, g: Segment) -> Result<State, Refusal>
     requires { Small g }
     ensures { result ≡ named mode names s g }
 {
     let nums = g.nums;
-    let sum = sums::name_after(mode, s.name_id, nums[4]);
-    match sum {
-        Kept::Negative => Moved::No(Code::BadSegmentSize(0), About::Field(4)),
-        Kept::Wide => Moved::No(Code::WideValue(4), About::Field(4)),
-        Kept::At(name_id) => {
-            if name_id < names {
-                let mut r = s;
-                r.name_id = name_id;
-                return Moved::To(r);
-            }
-            Moved::No(Code::BadNameReference(name_id), About::Field(4))
-        }
+    let name_id = kept(sums::name_after(mode, s.name_id, nums[4]), 4)?;
+    if name_id < names {
+        return Ok(State { name_id, ..s });
     }
+    Err(at_field(Code::BadNameReference(name_id), 4))
 }
 
 // Four fields: a source and no name.
-fn apply_four(mode: Mode, sources: u32, s: State, g: Segment) -> Applied
+#[tactic(auto, unfolding(crate::specs::Apply::four))]
+fn apply_four(mode: Mode, sources: u32, s: State, g: Segment) -> Result<(Token, State), Refusal>
     requires { Small g }
     ensures { result ≡ four mode sources s g }
 {
-    let m = source(mode, sources, s, g);
-    match m {
-        Moved::To(r) => Applied::Took(token_of(r, r.source_id, token::NONE), r),
-        Moved::No(code, about) => Applied::Refused(code, about),
-    }
+    let r = source(mode, sources, s, g)?;
+    Ok((token_of(r, r.source_id, token::NONE), r))
 }
 
 // Five fields: a source and a name.
-fn apply_five(mode: Mode, sources: u32, names: u32, s: State, g: Segment) -> Applied
+#[tactic(auto, unfolding(crate::specs::Apply::five))]
+fn apply_five(
+    mode: Mode,
+    sources: u32,
+    names: u32,
+    s: State,
+    g: Segment,
+) -> Result<(Token, State), Refusal>
     requires { Small g }
     ensures { result ≡ five mode sources names s g }
 {
-    let m = source(mode, sources, s, g);
-    match m {
-        Moved::No(code, about) => Applied::Refused(code, about),
-        Moved::To(r) => {
-            let n = name(mode, names, r, g);
-            match n {
-                Moved::To(q) => Applied::Took(token_of(q, q.source_id, q.name_id), q),
-                Moved::No(code, about) => Applied::Refused(code, about),
-            }
-        }
-    }
+    let r = source(mode, sources, s, g)?;
+    let q = name(mode, names, r, g)?;
+    Ok((token_of(q, q.source_id, q.name_id), q))
 }
 
 // 2. The field count.
-fn apply_count(mode: Mode, sources: u32, names: u32, s: State, g: Segment) -> Applied
+#[tactic(auto, unfolding(crate::specs::Apply::counted))]
+fn apply_count(
+    mode: Mode,
+    sources: u32,
+    names: u32,
+    s: State,
+    g: Segment,
+) -> Result<(Token, State), Refusal>
     requires { Small g }
     ensures { result ≡ counted mode sources names s g }
 {
     let count = g.count;
     match count {
-        1 => Applied::Took(token_of(s, token::NONE, token::NONE), s),
+        1 => Ok((token_of(s, token::NONE, token::NONE), s)),
         4 => apply_four(mode, sources, s, g),
         5 => apply_five(mode, sources, names, s, g),
-        _ => Applied::Refused(
-            Code::BadSegmentSize((count % 4294967296) as u32),
-            About::Whole,
-        ),
+        _ => Err(Refusal {
+            code: Code::BadSegmentSize((count % 4294967296) as u32),
+            about: About::Whole,
+        }),
     }
 }
 
 // A segment whose values are all read: none of the first five is too wide, then steps 1 to 5.
-pub fn apply_segment(mode: Mode, sources: u32, names: u32, s: State, g: Segment) -> Applied
+#[tactic(auto, unfolding(crate::specs::Apply::applied))]
+pub fn apply_segment(
+    mode: Mode,
+    sources: u32,
+    names: u32,
+    s: State,
+    g: Segment,
+) -> Result<(Token, State), Refusal>
     requires { Small g }
     ensures { result ≡ applied mode sources names s g }
 {
-    let wide = g.wide;
-    if wide < 5 {
-        return Applied::Refused(Code::WideValue(wide), About::Field(wide));
+    if let Some(field) = g.wide {
+        return Err(at_field(Code::WideValue(field), field));
     }
-    let c = column(mode, s, g);
-    match c {
-        Moved::No(code, about) => Applied::Refused(code, about),
-        Moved::To(r) => apply_count(mode, sources, names, r, g),
-    }
+    let r = column(mode, s, g)?;
+    apply_count(mode, sources, names, r, g)
 }

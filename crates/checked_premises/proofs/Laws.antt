@@ -5,8 +5,9 @@ use mathlib.Core.List.{List, [], ◌∷◌}
 use Prim.Native.Nat.{ℕ, ◌+◌, ◌-◌, ◌*◌, ◌/◌, ◌^◌, ◌<◌, ◌≤◌}
 use native.Mathlib.Omega.{arith}
 use lib.Dec.{ltb}
+use Rattle.std.specs.Int.{abs_diff}
 use lib.ListN.{length, get_or}
-use borrow.Author.Tests.{lt-ltb, le-ltb, lt-leb, le-leb, ltb-true, ltb-false, eq-eqb, ne_eqb, not-true, not-false}
+use borrow.Author.Tests.{lt-leb, le-leb, ltb-true, ltb-false, eq-eqb, ne_eqb, not-true, not-false}
 use Rattle.list.specs.Pick.{pick, both}
 use Rattle.list.proofs.Pick.{both_true}
 use Rattle.token.specs.Table.{no_id, is_none, places, bad_table, token_at, tokens_from, tokens_of}
@@ -16,7 +17,7 @@ use Rattle.token.proofs.Laws.{tokens_step, tokens_none}
 use Rattle.value.specs.Standard.{too_wide}
 use Rattle.value.specs.declared.Mode.TheVariants.{Checked}
 use Rattle.vlq_write.specs.Write.{vlq_value}
-use Rattle.chunk.specs.Chunk.{fresh, base_of, fields_of, after}
+use Rattle.chunk.specs.Chunk.{chunk_of, fresh, base_of, fields_of, after}
 use Rattle.premises.specs.Premises.{follows, follow, decides}
 use Rattle.premises.proofs.Laws.{fits_all}
 use Rattle.checked_premises.specs.Checked.{takes, takes_each, takes_from, takes_all, decides_checked, DecidesChecked}
@@ -28,13 +29,13 @@ unfolding takes too_wide
 sized d n e true q = rw (e, lt-leb (2 ^ 31) d (ltb-true d 2147483648 q))
 sized d n e false q = rw (e, le-leb (2 ^ 31) d (ltb-false d 2147483648 q))
 
-pub down : (a b : ℕ) → a < b → ltb (b - a) 2147483648 ≡ takes Checked (vlq_value a b)
-unfolding vlq_value
-down a b h = rw (lt-ltb a b h) (sized (b - a) ((b - a) * 2 + 1) (omega arith) (ltb (b - a) 2147483648) refl)
+by_way : (t : Bool) (a b : ℕ) → ltb a b ≡ t → (r : Bool) → ltb (abs_diff a b) 2147483648 ≡ r → r ≡ takes Checked (pick t ((b - a) * 2 + 1) ((a - b) * 2))
+by_way true a b e r q = let h = ltb-true a b e in sized (abs_diff a b) ((b - a) * 2 + 1) (omega arith) r q
+by_way false a b e r q = let h = ltb-false a b e in sized (abs_diff a b) ((a - b) * 2) (omega arith) r q
 
-pub up : (a b : ℕ) → b ≤ a → ltb (a - b) 2147483648 ≡ takes Checked (vlq_value a b)
+pub near_is : (a b d : ℕ) → d ≡ abs_diff a b → ltb d 2147483648 ≡ takes Checked (vlq_value a b)
 unfolding vlq_value
-up a b h = rw (le-ltb a b h) (sized (a - b) ((a - b) * 2) (omega arith) (ltb (a - b) 2147483648) refl)
+near_is a b d e = rw e (by_way (ltb a b) a b refl (ltb (abs_diff a b) 2147483648) refl)
 
 -- ---- the steps of one token
 -- k to o are what the code finds of the steps to the column, the source, its line, its column and the name
@@ -88,6 +89,14 @@ joint sources names p ts = both (follow sources names p.prev_dst_line p.prev_src
 -- the tokens before the i-th are passed
 pub record Passing (table : List ℕ) (sources names i : ℕ) (p : TokenChunk) : Type 0 where
   pub is : decides_checked table sources names ≡ joint sources names p (tokens_from table i (places (length table) - i))
+
+-- the state of zeros, as its numbers
+pub begun_is : (p : TokenChunk)
+    → (p.start ≡ 0) × ((p.end ≡ 0) × ((p.prev_dst_line ≡ 0) × ((p.prev_dst_col ≡ 0) × ((p.prev_src_line ≡ 0) × ((p.prev_src_col ≡ 0) × ((p.prev_name_id ≡ 0) × (p.prev_source_id ≡ 0)))))))
+    → p ≡ fresh 0 0
+begun_is p h =
+    let e : chunk_of p.start p.end p.prev_dst_line p.prev_dst_col p.prev_src_line p.prev_src_col p.prev_name_id p.prev_source_id ≡ fresh 0 0 = cc in
+    e
 
 neither : (a : Bool) → both a false ≡ false
 neither true = refl

@@ -3,36 +3,18 @@
 
 ghost use Rattle.std.specs.Prelude.{◌≡◌};
 ghost use Rattle.vlq_write.specs.Write.{vlq_value};
-ghost use Rattle.chunk.specs.Chunk.{fresh, fields_of};
+ghost use Rattle.chunk.specs.Chunk.{fields_of};
 ghost use Rattle.value.specs.declared.Mode.{Mode};
 ghost use Rattle.checked_premises.specs.Checked.{takes, takes_each, DecidesChecked};
 
+use premises::Before;
 use token::{Token, TokenChunk};
-
-// The state before the first token.
-fn begun() -> TokenChunk
-    ensures { result ≡ fresh 0 0 }
-{
-    TokenChunk {
-        start: 0,
-        end: 0,
-        prev_dst_line: 0,
-        prev_dst_col: 0,
-        prev_src_line: 0,
-        prev_src_col: 0,
-        prev_name_id: 0,
-        prev_source_id: 0,
-    }
-}
 
 // The step from b to a is written within the standard's limit.
 fn near(a: u32, b: u32) -> bool
     ensures { result ≡ takes Mode.Checked (vlq_value a b) }
 {
-    if a < b {
-        return b - a < 2147483648;
-    }
-    a - b < 2147483648
+    a.abs_diff(b) < 2147483648
 }
 
 // So is each step of the token, after a state.
@@ -67,26 +49,21 @@ pub fn meets_checked_premises(table: &[u32], sources: u32, names: u32) -> bool
     if token::bad_table(table.len()) {
         return false;
     }
-    let count = token::places_in(table.len());
-    let mut i: usize = 0;
-    let mut p = begun();
-    while i < count {
+    let mut p = TokenChunk::default();
+    for i in 0..token::places_in(table.len()) {
         let t = token::token_at(table, i);
-        if !premises::follows_ok(
-            sources,
-            names,
-            p.prev_dst_line,
-            p.prev_src_line,
-            p.prev_src_col,
-            t,
-        ) {
+        let before = Before {
+            line: p.prev_dst_line,
+            src_line: p.prev_src_line,
+            src_col: p.prev_src_col,
+        };
+        if !premises::follows_ok(sources, names, before, t) {
             return false;
         }
         if !near_all(p, t) {
             return false;
         }
         p = chunk::after(p, t);
-        i += 1;
     }
     true
 }

@@ -4,8 +4,6 @@
 ghost use Rattle.std.specs.Prelude.{◌≡◌, ◌+◌, ◌≤◌, length, replicate};
 ghost use Rattle.list.specs.Pick.{pick};
 ghost use Rattle.token.specs.Table.{is_none};
-ghost use Rattle.digits.specs.Tables.{writing};
-ghost use Rattle.vlq_write.specs.Near.{near_writing};
 ghost use Rattle.list.specs.Put.{Put};
 ghost use Rattle.chunk.specs.Chunk.{lead, base_of, spelled, bytes_of, after};
 ghost use Rattle.chunk.specs.Parts.{LeadSize, NameSize, source_of, SourceSize};
@@ -27,20 +25,27 @@ pub fn base_of(p: TokenChunk, t: Token) -> u32
 pub fn after(p: TokenChunk, t: Token) -> TokenChunk
     ensures { result ≡ after p t }
 {
-    let mut r = p;
-    r.prev_dst_line = t.dst_line;
-    r.prev_dst_col = t.dst_col;
+    let bare = TokenChunk {
+        prev_dst_line: t.dst_line,
+        prev_dst_col: t.dst_col,
+        ..p
+    };
     if t.source_id == token::NONE {
-        return r;
+        return bare;
     }
-    r.prev_src_line = t.src_line;
-    r.prev_src_col = t.src_col;
-    r.prev_source_id = t.source_id;
+    let sourced = TokenChunk {
+        prev_src_line: t.src_line,
+        prev_src_col: t.src_col,
+        prev_source_id: t.source_id,
+        ..bare
+    };
     if t.name_id == token::NONE {
-        return r;
+        return sourced;
     }
-    r.prev_name_id = t.name_id;
-    r
+    TokenChunk {
+        prev_name_id: t.name_id,
+        ..sourced
+    }
 }
 
 // The bytes before a token's fields: `,`, `;`s or none.
@@ -49,10 +54,7 @@ fn lead_size(first: bool, from: u32, to: u32) -> u64
     ensures { LeadSize first from to result }
 {
     if from == to {
-        if first {
-            return 0;
-        }
-        return 1;
+        return u64::from(!first);
     }
     (to - from) as u64
 }
@@ -72,7 +74,7 @@ fn name_of(p: TokenChunk, t: Token) -> u32
 fn unnamed(t: Token) -> u64
     ensures { result ≡ pick (is_none t.name_id) 1 0 }
 {
-    if t.name_id == token::NONE { 1 } else { 0 }
+    u64::from(t.name_id == token::NONE)
 }
 
 // Whether a token has a name is as good as random, so that it is data and no branch: a step of nothing takes one digit.
@@ -109,17 +111,12 @@ fn put_semis(out: &mut [u8], at: usize, count: u32) -> usize
     requires { at + count ≤ length out.old }
     ensures { Put out.old at (replicate count 59) result out.new }
 {
-    let mut i = at;
-    let mut k: u32 = 0;
-    while k < count {
-        out[i] = b';';
-        i += 1;
-        k += 1;
-    }
-    i
+    let end = at + count as usize;
+    out[at..end].fill(b';');
+    end
 }
 
-// The first `;` is stored by itself: most tokens advance one line at the most, and the loop is a call.
+// The first `;` is stored by itself: most tokens advance one line at the most, and filling is a call.
 fn put_lead(out: &mut [u8], at: usize, first: bool, from: u32, to: u32) -> usize
     requires from_le_to { from ≤ to }
     requires to_in_bounds { at + length (lead first from to) ≤ length out.old }
@@ -140,48 +137,29 @@ fn put_lead(out: &mut [u8], at: usize, first: bool, from: u32, to: u32) -> usize
 }
 
 // The fields after the first, of a token with a source.
-fn put_source(
-    w: &[u8; 64],
-    near: &[u8; 31],
-    out: &mut [u8],
-    at: usize,
-    p: TokenChunk,
-    t: Token,
-) -> usize
-    requires w_value { w.now ≡ writing }
-    requires near_value { near.now ≡ near_writing }
-    requires t_in_bounds { at + length (spelled (source_of p t)) ≤ length out.old }
+fn put_source(out: &mut [u8], at: usize, p: TokenChunk, t: Token) -> usize
+    requires { at + length (spelled (source_of p t)) ≤ length out.old }
     ensures { Put out.old at (spelled (source_of p t)) result out.new }
 {
-    let a = vlq_write::put_step(w, near, out, at, t.source_id, p.prev_source_id);
-    let b = vlq_write::put_step(w, near, out, a, t.src_line, p.prev_src_line);
-    let c = vlq_write::put_step(w, near, out, b, t.src_col, p.prev_src_col);
+    let a = vlq_write::put_step(out, at, t.source_id, p.prev_source_id);
+    let b = vlq_write::put_step(out, a, t.src_line, p.prev_src_line);
+    let c = vlq_write::put_step(out, b, t.src_col, p.prev_src_col);
     if t.name_id == token::NONE {
         return c;
     }
-    vlq_write::put_step(w, near, out, c, t.name_id, p.prev_name_id)
+    vlq_write::put_step(out, c, t.name_id, p.prev_name_id)
 }
 
 // All the bytes of a token, from `at` on; the place after them.
-pub fn put_token(
-    w: &[u8; 64],
-    near: &[u8; 31],
-    out: &mut [u8],
-    at: usize,
-    first: bool,
-    p: TokenChunk,
-    t: Token,
-) -> usize
-    requires w_value { w.now ≡ writing }
-    requires near_value { near.now ≡ near_writing }
+pub fn put_token(out: &mut [u8], at: usize, first: bool, p: TokenChunk, t: Token) -> usize
     requires prev_dst_line_bound { p.prev_dst_line ≤ t.dst_line }
     requires t_in_bounds { at + length (bytes_of first p t) ≤ length out.old }
     ensures { Put out.old at (bytes_of first p t) result out.new }
 {
     let a = put_lead(out, at, first, p.prev_dst_line, t.dst_line);
-    let b = vlq_write::put_step(w, near, out, a, t.dst_col, base_of(p, t));
+    let b = vlq_write::put_step(out, a, t.dst_col, base_of(p, t));
     if t.source_id == token::NONE {
         return b;
     }
-    put_source(w, near, out, b, p, t)
+    put_source(out, b, p, t)
 }

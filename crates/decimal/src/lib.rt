@@ -10,11 +10,11 @@ fn figure(d: u64) -> u8
     requires { d < 10 }
     ensures { result ≡ Decimal·figure d }
 {
-    48 + d as u8
+    b'0' + d as u8
 }
 
 // Writes the figures of `n` from `at` on, and gives the place after them: those of all but the last, and then the last. A
-// number of 64 bits has 20 at the most.
+// number of 64 bits has 20 at the most. std's `write!` stays out: into lent bytes its contract does not say which bytes it wrote.
 pub fn put_decimal(out: &mut [u8], at: usize, n: u64) -> usize
     requires { at + length (figures_of n) ≤ length out.old }
     ensures { Put out.old at (figures_of n) result out.new }

@@ -1,4 +1,5 @@
 -- The bytes at a token's seventh number, up to the next delimiter or the end, gave the token. Assumes nothing.
+use Rattle.std.specs.Prelude.{Some, Ok}
 use mathlib.Core.Path.{◌≡◌, refl, sym, ◌∙◌, ap, subst}
 use mathlib.Core.Bool.{Bool, true, false}
 use mathlib.Core.List.{List, [], ◌∷◌, ◌++◌}
@@ -17,7 +18,6 @@ use Rattle.value.specs.declared.Mode.{Mode}
 use Rattle.segment.proofs.Border.{Border}
 use Rattle.segment.proofs.Within.{Clear}
 use Rattle.apply.specs.declared.State.{State}
-use Rattle.step.specs.declared.Step.{Step}
 use Rattle.step.specs.Step.{start, step_from, step_at}
 use Rattle.step.proofs.Ends.{closes}
 use Rattle.step.proofs.Faults as step
@@ -67,7 +67,7 @@ border_at text n h l = by (drop n text) refl
 module _ (mode : Mode) (sources names : ℕ) (text : List ℕ) where
   -- ---- a step's segment
   module _ (s : State) (p : Passed mode sources names text s) (t : Token) (begin : ℕ) (s' : State)
-      (e : step_at mode sources names text s ≡ Step.Put t begin s') where
+      (e : step_at mode sources names text s ≡ Ok (Some (t, begin, s'))) where
     lies : step.Fault s.at (drop s.at text) begin s'.at
     lies = lies_put mode sources names text s t begin s' e
 
@@ -94,12 +94,12 @@ module _ (mode : Mode) (sources names : ℕ) (text : List ℕ) where
     pub past : s.at ≤ t.segment
     pub end : ℕ
     pub end_is : end ≡ t.segment + length (piece (drop t.segment text))
-    pub without : run mode sources names (take t.segment text) index left s ≡ record { tokens = before; code = Code.Done; offset = t.segment }
-    pub with : run mode sources names (take end text) index left s ≡ record { tokens = before ++ (t ∷ []); code = Code.Done; offset = end }
+    pub without : run mode sources names (take t.segment text) index left s ≡ record { tokens = before; end = Ok tt; offset = t.segment }
+    pub with : run mode sources names (take end text) index left s ≡ record { tokens = before ++ (t ∷ []); end = Ok tt; offset = end }
 
   -- the first
   got_here : (index left : ℕ) (s : State) → Passed mode sources names text s → (t : Token) (begin : ℕ) (s' : State)
-      → step_at mode sources names text s ≡ Step.Put t begin s' → begin < no_segment → Got index (suc left) s [] (with_segment t begin)
+      → step_at mode sources names text s ≡ Ok (Some (t, begin, s')) → begin < no_segment → Got index (suc left) s [] (with_segment t begin)
   unfolding step_from
   got_here index left s p t begin s' e l =
       let f = lies s p t begin s' e in
@@ -120,7 +120,7 @@ module _ (mode : Mode) (sources names : ℕ) (text : List ℕ) where
       }
 
   -- one behind the first
-  got_later : (index left : ℕ) (s : State) (t₀ : Token) (begin : ℕ) (s' : State) → step_at mode sources names text s ≡ Step.Put t₀ begin s' → begin < no_segment
+  got_later : (index left : ℕ) (s : State) (t₀ : Token) (begin : ℕ) (s' : State) → step_at mode sources names text s ≡ Ok (Some (t₀, begin, s')) → begin < no_segment
       → (before : List Token) (t : Token) → Got (index + 1) left s' before t → Got index (suc left) s (with_segment t₀ begin ∷ before) t
   got_later index left s t₀ begin s' e l before t g =
       let c = put_cut mode sources names text s t₀ begin s' e t.segment g.past in
@@ -143,7 +143,7 @@ module _ (mode : Mode) (sources names : ℕ) (text : List ℕ) where
   none [] t rest e = let z : ◌≡◌ {A = ℕ} 0 1 = cc in absurd (omega arith)
   none (u ∷ before) t rest e = let z : ◌≡◌ {A = ℕ} 0 1 = cc in absurd (omega arith)
 
-  got_put : (index left : ℕ) (s : State) (u : Token) (begin : ℕ) (s' : State) (o : Out) → step_at mode sources names text s ≡ Step.Put u begin s'
+  got_put : (index left : ℕ) (s : State) (u : Token) (begin : ℕ) (s' : State) (o : Out) → step_at mode sources names text s ≡ Ok (Some (u, begin, s'))
       → begin < no_segment → Gets (index + 1) left s' o → Gets index (suc left) s (token_then (with_segment u begin) o)
   got_put index left s u begin s' o e l h p [] t rest q =
       let x : with_segment u begin ≡ t = cc in
@@ -183,7 +183,7 @@ parted ts table i l =
 
 -- a text that is done with these tokens
 gives : (mode : Mode) (sources names : ℕ) (text table : List ℕ) (ts us : List Token) (k n offset : ℕ)
-    → decoded mode sources names text (places (length table)) ≡ record { tokens = ts; code = Code.Done; offset = offset } → ts ≡ us → length us ≡ k → offset ≡ n
+    → decoded mode sources names text (places (length table)) ≡ record { tokens = ts; end = Ok tt; offset = offset } → ts ≡ us → length us ≡ k → offset ≡ n
     → Decodes mode sources names text table (done k n) (over us table)
 gives mode sources names text table ts us k n offset e eu ek en =
     record {

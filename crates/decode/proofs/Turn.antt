@@ -1,4 +1,5 @@
 -- One turn of the decoding loop, on the definitions alone. Assumes nothing.
+use Rattle.std.specs.Prelude.{Some, None, Result, Ok, Err, ⊤}
 use mathlib.Core.Path.{◌≡◌, refl, ap, sym, ◌∙◌}
 use mathlib.Core.List.{List, [], ◌∷◌, ◌++◌, append_assoc, append-nil}
 use Prim.Native.Nat.{ℕ, suc, ◌+◌, ◌-◌, ◌≤◌, ◌<◌}
@@ -12,17 +13,16 @@ use Rattle.token.specs.declared.Token.{Token}
 use Rattle.token.proofs.Laws.{put_over, length_over}
 use Rattle.value.specs.declared.Mode.{Mode}
 use Rattle.apply.specs.declared.State.{State}
-use Rattle.step.specs.Step.{start, step_at}
+use Rattle.step.specs.Step.{start, step_at, refused, Step}
 use Rattle.step.specs.Ways.{told, Closes, Passed}
 use Rattle.step.proofs.Told.{Untold, told_done, told_refused, told_put}
 use Rattle.step.proofs.Ends.{closes}
-use Rattle.step.specs.declared.Step.{Step}
 use Rattle.decode.specs.Mapping.{Out, stopped, token_then, run, decoded, Decodes}
 use Rattle.decode.proofs.Runs.{run_done, run_refused, run_late, run_full, run_put, put_past, run_same}
 
 -- tokens before others
 abbrev before : List Token → Out → Out
-before ts o = record { tokens = ts ++ o.tokens; code = o.code; offset = o.offset }
+before ts o = record { tokens = ts ++ o.tokens; end = o.end; offset = o.offset }
 
 before_ahead : (ts : List Token) (t : Token) (o : Out) → before ts (token_then t o) ≡ before (ts ++ (t ∷ [])) o
 before_ahead ts t o = rw (append_assoc ts (t ∷ []) o.tokens)
@@ -81,22 +81,22 @@ module _ (mode : Mode) (sources names : ℕ) (text : List ℕ) where
     pub long : length table ≡ length table₀
     long = rw f.wrote (length_over f.ts table₀ (omega (arith, f.count, f.room)))
 
-    left : (code : Code) (offset : ℕ) → runs tokens (places (length table₀) - tokens) s ≡ stopped code offset
-        → Decodes mode sources names text table₀ (record { code = code; tokens = tokens; offset = offset }) table
-    left code offset e =
-        let d : decoded mode sources names text (places (length table₀)) ≡ record { tokens = f.ts; code = code; offset = offset }
+    left : (end : Result ⊤ Code) (offset : ℕ) → runs tokens (places (length table₀) - tokens) s ≡ stopped end offset
+        → Decodes mode sources names text table₀ (record { end = end; tokens = tokens; offset = offset }) table
+    left end offset e =
+        let d : decoded mode sources names text (places (length table₀)) ≡ record { tokens = f.ts; end = end; offset = offset }
         = f.rest ∙ rw (e, append-nil f.ts) in
         record { says = rw (d, f.count); wrote = rw d f.wrote }
 
-    pub ended : Step.Done ≡ told (steps s) → Decodes mode sources names text table₀ (record { code = Code.Done; tokens = tokens; offset = length text }) table
-    ended e = left Code.Done (length text) (run_done mode sources names text tokens (places (length table₀) - tokens) s (told_done (steps s) e))
+    pub ended : Ok None ≡ told (steps s) → Decodes mode sources names text table₀ (record { end = Ok tt; tokens = tokens; offset = length text }) table
+    ended e = left (Ok tt) (length text) (run_done mode sources names text tokens (places (length table₀) - tokens) s (told_done (steps s) e))
 
-    pub refused : (code : Code) (offset : ℕ) → Step.Refuse code offset ≡ told (steps s)
-        → Decodes mode sources names text table₀ (record { code = code; tokens = tokens; offset = offset }) table
-    refused code offset e = left code offset (run_refused mode sources names text tokens (places (length table₀) - tokens) s code offset (told_refused (steps s) code offset e))
+    pub fails : (code : Code) (offset : ℕ) → Err (refused code offset) ≡ told (steps s)
+        → Decodes mode sources names text table₀ (record { end = Err code; tokens = tokens; offset = offset }) table
+    fails code offset e = left (Err code) offset (run_refused mode sources names text tokens (places (length table₀) - tokens) s code offset (told_refused (steps s) code offset e))
 
     -- room is what the code counted
-    module _ (t : Token) (at : ℕ) (s' : State) (e : Step.Put t at s' ≡ told (steps s)) (room : ℕ) (er : room ≡ places (length table₀)) where
+    module _ (t : Token) (at : ℕ) (s' : State) (e : Ok (Some (t, at, s')) ≡ told (steps s)) (room : ℕ) (er : room ≡ places (length table₀)) where
       untold : Untold (steps s) t at s'
       untold = told_put (steps s) t at s' e
 
@@ -107,13 +107,13 @@ module _ (mode : Mode) (sources names : ℕ) (text : List ℕ) where
       says : at < no_segment → t ≡ with_segment untold.token at
       says l = untold.is ∙ ap (with_segment untold.token) (mod-eq_of_lt (omega arith))
 
-      pub late : no_segment ≤ at → Decodes mode sources names text table₀ (record { code = Code.TooBig tokens; tokens = tokens; offset = at }) table
-      late l = left (Code.TooBig tokens) at (run_late mode sources names text tokens s untold.token at s' untold.step (places (length table₀) - tokens) l)
+      pub late : no_segment ≤ at → Decodes mode sources names text table₀ (record { end = Err (Code.TooBig tokens); tokens = tokens; offset = at }) table
+      late l = left (Err (Code.TooBig tokens)) at (run_late mode sources names text tokens s untold.token at s' untold.step (places (length table₀) - tokens) l)
 
-      pub no_place : at < no_segment → room ≤ tokens → Decodes mode sources names text table₀ (record { code = Code.TableFull; tokens = tokens; offset = at }) table
+      pub no_place : at < no_segment → room ≤ tokens → Decodes mode sources names text table₀ (record { end = Err Code.TableFull; tokens = tokens; offset = at }) table
       no_place l h =
           let z : places (length table₀) - tokens ≡ 0 = omega (arith, f.room) in
-          left Code.TableFull at (rw z (run_full mode sources names text tokens s untold.token at s' untold.step l))
+          left (Err Code.TableFull) at (rw z (run_full mode sources names text tokens s untold.token at s' untold.step l))
 
       pub place : tokens < room → tokens < places (length table)
       place h = rw long (omega (arith, er))

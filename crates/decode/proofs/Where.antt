@@ -1,4 +1,5 @@
 -- Where a refused decode says that the fault is, and that the tokens before it are kept. Assumes nothing.
+use Rattle.std.specs.Prelude.{Some, None, Ok, Err}
 use mathlib.Core.Path.{◌≡◌, refl, sym, ◌∙◌, ap, subst}
 use mathlib.Core.Bool.{Bool, true, false}
 use mathlib.Core.List.{List, [], ◌∷◌}
@@ -14,8 +15,7 @@ use Rattle.token.specs.declared.Token.{Token}
 use Rattle.value.specs.declared.Mode.{Mode}
 use Rattle.segment.proofs.Within.{Each, Clear}
 use Rattle.apply.specs.declared.State.{State}
-use Rattle.step.specs.declared.Step.{Step}
-use Rattle.step.specs.Step.{start, step_from, step_at}
+use Rattle.step.specs.Step.{start, step_from, step_at, refused, Step}
 use Rattle.step.specs.Ways.{Closes}
 use Rattle.step.proofs.Ends.{closes}
 use Rattle.step.proofs.Faults as step
@@ -98,22 +98,22 @@ module _ (mode : Mode) (sources names : ℕ) (text : List ℕ) where
         rw (← g) (each_one false (offset - begin) (drop begin text) clear_here (k - begin) (omega arith))
 
     -- before it only delimiters are left
-    pub nothing : step_at mode sources names (take begin text) s ≡ Step.Done
+    pub nothing : step_at mode sources names (take begin text) s ≡ Ok None
     nothing =
         let n : begin - s.at ≡ f.skip = omega (arith, f.begin_is) in
         ap (step_from mode sources names s) (drop_take s.at begin text ∙ ap (λ (k : ℕ). take k (drop s.at text)) n)
         ∙ nothing_before mode sources names f.skip s (drop s.at text) f.delims
 
   -- ---- a step of the text, in the beginning of it
-  module _ (s : State) (t : Token) (b : ℕ) (s' : State) (e : step_at mode sources names text s ≡ Step.Put t b s') (cut : ℕ) (l : s'.at ≤ cut) where
-    pub put_cut : (s.at < s'.at) × (step_at mode sources names (take cut text) s ≡ Step.Put t b s')
+  module _ (s : State) (t : Token) (b : ℕ) (s' : State) (e : step_at mode sources names text s ≡ Ok (Some (t, b, s'))) (cut : ℕ) (l : s'.at ≤ cut) where
+    pub put_cut : (s.at < s'.at) × (step_at mode sources names (take cut text) s ≡ Ok (Some (t, b, s')))
     put_cut =
         let v = put_take mode sources names (cut - s.at) s (drop s.at text) t b s' e (omega arith) in
         (v.0, ap (step_from mode sources names s) (drop_take s.at cut text) ∙ v.1)
 
-  pub ends_there : (index left cut : ℕ) (s : State) → cut ≤ length text → step_at mode sources names (take cut text) s ≡ Step.Done
-      → run mode sources names (take cut text) index left s ≡ stopped Code.Done cut
-  ends_there index left cut s h e = run_done mode sources names (take cut text) index left s e ∙ ap (stopped Code.Done) (length-take-le cut text h)
+  pub ends_there : (index left cut : ℕ) (s : State) → cut ≤ length text → step_at mode sources names (take cut text) s ≡ Ok None
+      → run mode sources names (take cut text) index left s ≡ stopped (Ok tt) cut
+  ends_there index left cut s h e = run_done mode sources names (take cut text) index left s e ∙ ap (stopped (Ok tt)) (length-take-le cut text h)
 
   -- ---- the whole decode
   pub record Found (index left : ℕ) (s : State) (o : Out) : Type 0 where
@@ -123,10 +123,10 @@ module _ (mode : Mode) (sources names : ℕ) (text : List ℕ) where
     pub from : begin ≤ o.offset
     pub to : o.offset ≤ length text
     pub inside : (k : ℕ) → begin ≤ k → k < o.offset → is_delim (get_or text k 0) ≡ false
-    pub kept : run mode sources names (take begin text) index left s ≡ record { tokens = o.tokens; code = Code.Done; offset = begin }
+    pub kept : run mode sources names (take begin text) index left s ≡ record { tokens = o.tokens; end = Ok tt; offset = begin }
 
   found_here : (index left : ℕ) (s : State) → Passed s → (code : Code) (begin offset : ℕ) → step.Fault s.at (drop s.at text) begin offset
-      → Found index left s (stopped code offset)
+      → Found index left s (stopped (Err code) offset)
   found_here index left s p code begin offset f =
       record {
         begin = begin;
@@ -138,7 +138,7 @@ module _ (mode : Mode) (sources names : ℕ) (text : List ℕ) where
         kept = ends_there index left begin s (omega (arith, (segment s p begin offset f).within)) (nothing s p begin offset f);
       }
 
-  found_later : (index left : ℕ) (s : State) (t : Token) (b : ℕ) (s' : State) (o : Out) → step_at mode sources names text s ≡ Step.Put t b s'
+  found_later : (index left : ℕ) (s : State) (t : Token) (b : ℕ) (s' : State) (o : Out) → step_at mode sources names text s ≡ Ok (Some (t, b, s'))
       → b < no_segment → Found (index + 1) left s' o → Found index (suc left) s (token_then (with_segment t b) o)
   found_later index left s t b s' o e l f =
       let q = put_cut s t b s' e f.begin f.past in
@@ -156,24 +156,24 @@ module _ (mode : Mode) (sources names : ℕ) (text : List ℕ) where
   lies : (s : State) (r : Step) → step_at mode sources names text s ≡ r → Lying mode sources names s (drop s.at text) r
   lies s r e = subst (Lying mode sources names s (drop s.at text)) e (lying mode sources names s (drop s.at text))
 
-  pub lies_put : (s : State) (t : Token) (begin : ℕ) (s' : State) → step_at mode sources names text s ≡ Step.Put t begin s'
+  pub lies_put : (s : State) (t : Token) (begin : ℕ) (s' : State) → step_at mode sources names text s ≡ Ok (Some (t, begin, s'))
       → step.Fault s.at (drop s.at text) begin s'.at
-  lies_put s t begin s' e = lies s (Step.Put t begin s') e
+  lies_put s t begin s' e = lies s (Ok (Some (t, begin, s'))) e
 
   -- a token for which there is no place, or whose segment begins too late
-  found_begin : (index left : ℕ) (s : State) (code : Code) (t : Token) (begin : ℕ) (s' : State) → step_at mode sources names text s ≡ Step.Put t begin s'
-      → Passed s → Found index left s (stopped code begin)
+  found_begin : (index left : ℕ) (s : State) (code : Code) (t : Token) (begin : ℕ) (s' : State) → step_at mode sources names text s ≡ Ok (Some (t, begin, s'))
+      → Passed s → Found index left s (stopped (Err code) begin)
   found_begin index left s code t begin s' e p =
       found_here index left s p code begin begin (at_begin s.at (drop s.at text) begin s'.at (lies_put s t begin s' e))
 
   abbrev Finds : ℕ → ℕ → State → Out → Type 0
-  Finds index left s o = Passed s → (o.code ≡ Code.Done → ⊥) → Found index left s o
+  Finds index left s o = Passed s → (o.end ≡ Ok tt → ⊥) → Found index left s o
 
   found : (index left : ℕ) (s : State) → Finds index left s (run mode sources names text index left s)
   found =
       run_by mode sources names text Finds
       (λ index left s e p n. absurd (n refl))
-      (λ index left s code offset e p n. let f = lies s (Step.Refuse code offset) e in found_here index left s p code f.0 offset f.1)
+      (λ index left s code offset e p n. let f = lies s (Err (refused code offset)) e in found_here index left s p code f.0 offset f.1)
       (λ index left s t begin s' e l p n. found_begin index left s (Code.TooBig index) t begin s' e p)
       (λ index s t begin s' e l p n. found_begin index 0 s Code.TableFull t begin s' e p)
       (λ index left s t begin s' o e l h p n. found_later index left s t begin s' o e l (h (λ _. closes mode sources names text s t begin s' (sym e)) n))
@@ -191,7 +191,7 @@ located mode sources names text table r table' d n =
       inside = λ k l h. f.inside k l (rw d.says at h);
       kept =
           record {
-            says = ap (λ (x : Decoded). record { code = Code.Done; tokens = x.tokens; offset = f.begin }) d.says ∙ sym (ap answer f.kept);
+            says = ap (λ (x : Decoded). record { end = Ok tt; tokens = x.tokens; offset = f.begin }) d.says ∙ sym (ap answer f.kept);
             wrote = d.wrote ∙ sym (ap (λ (x : Out). over x.tokens table) f.kept);
           };
     }

@@ -1,7 +1,6 @@
 -- docs/RULES.md, Tables: what the seventh number of a token says, of every token of every decode. Assumes nothing.
-use Rattle.std.specs.Prelude.{List, [], ◌∷◌, ◌++◌, ℕ, ◌+◌, ◌<◌, length, take, drop}
+use Rattle.std.specs.Prelude.{List, [], ◌∷◌, ◌++◌, ℕ, ◌+◌, ◌<◌, length, take, drop, Ok}
 use Rattle.list.specs.Pick.{pick}
-use Rattle.code.specs.declared.Code.{Code}
 use Rattle.digits.specs.Digits.{is_delim}
 use Rattle.token.specs.Table.{token_at, tokens_from, over}
 use Rattle.value.specs.declared.Mode.{Mode}
@@ -16,7 +15,7 @@ piece (b ∷ bs) = pick (is_delim b) [] (b ∷ piece bs)
 
 -- a decode that is done, with so many tokens and so many bytes
 abbrev pub done : ℕ → ℕ → Decoded
-done tokens bytes = record { code = Code.Done; tokens = tokens; offset = bytes }
+done tokens bytes = record { end = Ok tt; tokens = tokens; offset = bytes }
 
 -- at `begin` a segment begins, and its bytes gave the i-th token of a table: to decode what stands before them is done and gives the
 -- tokens before it, and to decode these bytes too is done and gives those and this one

@@ -1,6 +1,5 @@
 -- docs/RULES.md, Codes: where a refused decode says that the fault is, and what it has kept. Assumes nothing.
-use Rattle.std.specs.Prelude.{◌≡◌, true, false, List, ℕ, ◌+◌, ◌<◌, ◌≤◌, length, take, get_or}
-use Rattle.code.specs.declared.Code.{Code}
+use Rattle.std.specs.Prelude.{◌≡◌, true, false, List, ℕ, ◌+◌, ◌<◌, ◌≤◌, length, take, get_or, Ok}
 use Rattle.digits.specs.Digits.{is_delim}
 use Rattle.value.specs.declared.Mode.{Mode}
 use Rattle.decode.specs.declared.Decoded.{Decoded}
@@ -20,10 +19,10 @@ pub record Fault (mode : Mode) (sources names : ℕ) (text table : List ℕ) (r 
   pub from : begin ≤ r.offset
   pub to : r.offset ≤ length text
   pub inside : (k : ℕ) → begin ≤ k → k < r.offset → is_delim (get_or text k 0) ≡ false
-  pub kept : Decodes mode sources names (take begin text) table (record { code = Code.Done; tokens = r.tokens; offset = begin }) table'
+  pub kept : Decodes mode sources names (take begin text) table (record { end = Ok tt; tokens = r.tokens; offset = begin }) table'
 
 -- so it is of every decode that is refused
 abbrev pub Located : Type 0
 Located =
     (mode : Mode) (sources names : ℕ) (text table : List ℕ) (r : Decoded) (table' : List ℕ) → Decodes mode sources names text table r table'
-    → (r.code ≡ Code.Done → ⊥) → Fault mode sources names text table r table'
+    → (r.end ≡ Ok tt → ⊥) → Fault mode sources names text table r table'

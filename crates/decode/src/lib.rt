@@ -5,19 +5,18 @@
 #![tactic(auto)]
 
 ghost use Rattle.std.specs.Prelude.{◌≡◌};
-ghost use Rattle.step.specs.Step.{start};
 ghost use Rattle.decode.specs.Mapping.{by_default, Decodes};
 ghost use Rattle.value.specs.declared.Mode.{Mode};
 
 use apply::State;
 use code::Code;
-use step::Step;
 use value::Mode;
 
-// The code; how many tokens were written; and where the fault lies, or the text's length when done.
+// How the decode ended; how many tokens were written; and where the fault lies, or the text's length when done. What was written before
+// a refusal stays, so that the count stands beside the end and not in it.
 #[derive(Clone, Copy)]
 pub struct Decoded {
-    pub code: Code,
+    pub end: Result<(), Code>,
     pub tokens: usize,
     pub offset: usize,
 }
@@ -25,17 +24,13 @@ pub struct Decoded {
 // Where a segment begins too late for a token to say so: 32 bits have no other number for none.
 const LATE: usize = 4294967295;
 
-fn begun() -> State
-    ensures { result ≡ start }
+fn ended(end: Result<(), Code>, tokens: usize, offset: usize) -> Decoded
+    ensures { result ≡ record { end = end; tokens = tokens; offset = offset } }
 {
-    State {
-        dst_line: 0,
-        dst_col: 0,
-        src_line: 0,
-        src_col: 0,
-        source_id: 0,
-        name_id: 0,
-        at: 0,
+    Decoded {
+        end,
+        tokens,
+        offset,
     }
 }
 
@@ -44,46 +39,22 @@ fn decode_in(mode: Mode, text: &[u8], sources: u32, names: u32, table: &mut [u32
     ensures { Decodes mode sources names text.now table.old result table.new }
 {
     let room = token::places_in(table.len());
-    let mut s = step::next_segment(text, begun());
+    let mut s = step::next_segment(text, State::default());
     let mut tokens: usize = 0;
     loop {
-        let next = step::take_segment(text, mode, sources, names, s);
-        match next {
-            Step::Done => {
-                return Decoded {
-                    code: Code::Done,
-                    tokens,
-                    offset: text.len(),
-                };
-            }
-            Step::Refuse(code, offset) => {
-                return Decoded {
-                    code,
-                    tokens,
-                    offset,
-                };
-            }
-            Step::Put(t, begin, after) => {
-                if begin < LATE {
-                    if tokens < room {
-                        token::put_token(table, tokens, t);
-                        tokens += 1;
-                        s = step::next_after(text, after);
-                    } else {
-                        return Decoded {
-                            code: Code::TableFull,
-                            tokens,
-                            offset: begin,
-                        };
-                    }
-                } else {
-                    let index = tokens as u32;
-                    return Decoded {
-                        code: Code::TooBig(index),
-                        tokens,
-                        offset: begin,
-                    };
+        match step::take_segment(text, mode, sources, names, s) {
+            Ok(None) => return ended(Ok(()), tokens, text.len()),
+            Err(r) => return ended(Err(r.code), tokens, r.offset),
+            Ok(Some((t, begin, after))) => {
+                if LATE <= begin {
+                    return ended(Err(Code::TooBig(tokens as u32)), tokens, begin);
                 }
+                if room <= tokens {
+                    return ended(Err(Code::TableFull), tokens, begin);
+                }
+                token::put_token(table, tokens, t);
+                tokens += 1;
+                s = step::next_after(text, after);
             }
         }
     }

@@ -10,8 +10,8 @@ use Rattle.token.specs.declared.Token.{Token}
 use Rattle.token.specs.declared.TokenChunk.{TokenChunk}
 use Rattle.chunk.specs.Chunk.{bytes_of, after}
 use Rattle.encode.specs.Encode.{bytes_in}
-use Rattle.encode.specs.Passes.{Inside, Measures}
-use Rattle.encode.specs.declared.Count.{Count}
+use Rattle.code.specs.declared.Code.{Code}
+use Rattle.encode.specs.Passes.{Inside, Backs, Counted}
 use Rattle.chunk.proofs.State.{SmallToken, SmallState, after_small, after_line}
 use Rattle.chunk.proofs.Fields.{bytes_most}
 use Rattle.chunk.proofs.Lists.{back, bytes, back_here, back_next, back_none, length_next, bytes_none}
@@ -39,8 +39,7 @@ measuring table c s h =
     }
 
 module _ (table : List ℕ) (c p : TokenChunk) (i n : ℕ) (f : Measuring table c p i n) where
-  pub measured_all : c.end ≤ i → Measures table c (Count.Needs n)
-  unfolding Measures
+  pub measured_all : c.end ≤ i → Counted table c n
   measured_all h =
       record {
         forth = f.backs ∙ back_none table c.end i h p.prev_dst_line;
@@ -48,9 +47,8 @@ module _ (table : List ℕ) (c p : TokenChunk) (i n : ℕ) (f : Measuring table 
       }
 
   module _ (t : Token) (et : t ≡ token_at table i) (h : i < c.end) where
-    pub measured_back : t.dst_line < p.prev_dst_line → Measures table c (Count.Back i)
-    unfolding Measures
-    measured_back b = f.backs ∙ back_here table c.end i t et h p.prev_dst_line b
+    pub measured_back : t.dst_line < p.prev_dst_line → Backs table c (Code.LineGoesBack i)
+    measured_back b = record { at = i; back = f.backs ∙ back_here table c.end i t et h p.prev_dst_line b; says = refl }
 
     -- k is the token's size, as the code has it
     module _ (b : p.prev_dst_line ≤ t.dst_line) (st : SmallToken t) (k : ℕ) (ek : k ≡ length (bytes_of (eqb i 0) p t)) where

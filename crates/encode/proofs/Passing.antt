@@ -1,18 +1,18 @@
 -- The pass over the lines, as laws of the definitions. Assumes nothing.
-use mathlib.Core.Path.{◌≡◌, refl, ◌∙◌, ap, subst}
+use mathlib.Core.Path.{◌≡◌, refl, ◌∙◌, ap}
 use mathlib.Core.List.{List}
 use Prim.Native.Nat.{ℕ, ◌+◌, ◌-◌, ◌*◌, ◌≤◌, ◌<◌}
 use native.Mathlib.Omega.{arith}
 use lib.Dec.{eqb}
 use lib.ListN.{length}
+use Rattle.std.specs.Prelude.{Result, Ok, Err}
+use Rattle.std.specs.Result.{MatchResult}
 use Rattle.token.specs.Table.{token_at}
 use Rattle.token.specs.declared.Token.{Token}
 use Rattle.token.specs.declared.TokenChunk.{TokenChunk}
 use Rattle.chunk.specs.Chunk.{bytes_of, after}
-use Rattle.encode.specs.Passes.{Inside, Rising, Lined, Measures, Suffices}
-use Rattle.encode.specs.declared.Count.{Count}
-use Rattle.encode.specs.declared.Order.{Order}
-use Rattle.encode.specs.declared.Order.TheVariants.{Back, Forth}
+use Rattle.code.specs.declared.Code.{Code}
+use Rattle.encode.specs.Passes.{Inside, Backs, Bounded, Counted, Rising}
 use Rattle.chunk.proofs.State.{SmallToken, SmallState, after_line}
 use Rattle.chunk.proofs.Lists.{bytes, back_here, back_none, bytes_none}
 use Rattle.encode.proofs.Measure.{Measuring, measuring, measure_next}
@@ -31,8 +31,7 @@ module _ (table : List ℕ) (c : TokenChunk) (line i : ℕ) (f : Passing table c
   abbrev m : Measuring table c f.p i f.n
   m = f.counts
 
-  pub passed : c.end ≤ i → Lined table c (Forth line)
-  unfolding Lined
+  pub passed : c.end ≤ i → Rising table c line
   passed h =
       let e : length (bytes table c.end i f.p) ≡ 0 = ap length (bytes_none table c.end i h f.p) in
       record {
@@ -42,9 +41,8 @@ module _ (table : List ℕ) (c : TokenChunk) (line i : ℕ) (f : Passing table c
       }
 
   module _ (t : Token) (et : t ≡ token_at table i) (h : i < c.end) where
-    pub goes_back : t.dst_line < line → Lined table c (Back i)
-    unfolding Lined
-    goes_back b = m.backs ∙ back_here table c.end i t et h f.p.prev_dst_line (omega (arith, f.here))
+    pub goes_back : t.dst_line < line → Backs table c (Code.LineGoesBack i)
+    goes_back b = record { at = i; back = m.backs ∙ back_here table c.end i t et h f.p.prev_dst_line (omega (arith, f.here)); says = refl }
 
     pub passes : line ≤ t.dst_line → SmallToken t → Passing table c t.dst_line (i + 1)
     passes b st =
@@ -57,26 +55,14 @@ module _ (table : List ℕ) (c : TokenChunk) (line i : ℕ) (f : Passing table c
 
 -- ---- what is needed, by the one pass or the other
 module _ (table : List ℕ) (c : TokenChunk) (room : ℕ) where
-  module _ (l : Order) (ll : Lined table c l) where
-    pub needs_back : (i : ℕ) → l ≡ Back i → Suffices table c room (Count.Back i)
-    unfolding Lined Suffices
-    needs_back i e = subst (Lined table c) e ll
+  -- n is the bound as the code has it
+  pub needs_most : (last : ℕ) → Rising table c last → (n : ℕ) → n ≡ (c.end - c.start) * 36 + (last - c.prev_dst_line) → n ≤ room → Bounded table c room n
+  needs_most last r n en h =
+      record {
+        forth = r.forth;
+        bounds = record { enough = λ _. omega (arith, r.most); exact = λ k. absurd (omega arith) };
+      }
 
-    module _ (last : ℕ) (e : l ≡ Forth last) where
-      pub rising : Rising table c last
-      unfolding Lined
-      rising = subst (Lined table c) e ll
-
-      -- n is the bound as the code has it
-      pub needs_most : (n : ℕ) → n ≡ (c.end - c.start) * 36 + (last - c.prev_dst_line) → n ≤ room → Suffices table c room (Count.Needs n)
-      unfolding Suffices
-      needs_most n en h =
-          record {
-            forth = rising.forth;
-            bounds = record { enough = λ _. omega (arith, rising.most); exact = λ k. absurd (omega arith) };
-          }
-
-  pub needs_exact : (r : Count) → Measures table c r → Suffices table c room r
-  unfolding Measures Suffices
-  needs_exact (Count.Back i) e = e
-  needs_exact (Count.Needs n) e = record { forth = e.forth; bounds = record { enough = λ k. omega (arith, e.is); exact = λ _. e.is } }
+  pub needs_exact : (r : Result ℕ Code) → MatchResult r (Counted table c) (Backs table c) → MatchResult r (Bounded table c room) (Backs table c)
+  needs_exact (Err e) m = m
+  needs_exact (Ok n) m = record { forth = m.forth; bounds = record { enough = λ k. omega (arith, m.is); exact = λ _. m.is } }

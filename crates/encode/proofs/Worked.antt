@@ -2,13 +2,14 @@
 use mathlib.Core.Path.{◌≡◌, refl}
 use mathlib.Core.List.{List, [], ◌∷◌}
 use Prim.Native.Nat.{ℕ}
+use Rattle.std.specs.Prelude.{Result, Ok, Err}
 use Rattle.code.specs.declared.Code.{Code}
 use Rattle.token.specs.Table.{no_id, no_segment, token_at, tokens_from}
 use Rattle.token.specs.declared.TokenChunk.{TokenChunk}
 use Rattle.digits.specs.Digits.{char_of}
 use Rattle.vlq_write.specs.Write.{vlq_value, digits_of}
 use Rattle.chunk.specs.Chunk.{lead, base_of, fields_of, spelled, bytes_of, after, written, end_of, first_back}
-use Rattle.encode.specs.Encode.{bytes_in, given_back, encoded}
+use Rattle.encode.specs.Encode.{bytes_in, encoded}
 use Rattle.encode.specs.declared.Encoded.{Encoded}
 
 -- line, column, source line, source column, name id, source id
@@ -28,8 +29,8 @@ chunk from to a b c d e f =
 abbrev zeros : ℕ → ℕ → TokenChunk
 zeros from to = chunk from to 0 0 0 0 0 0
 
-abbrev done : ℕ → TokenChunk → Encoded
-done bytes next = record { code = Code.Done; bytes = bytes; next = next }
+abbrev done : ℕ → TokenChunk → Result Encoded Code
+done bytes next = Ok (record { bytes = bytes; next = next })
 
 -- the tokens of `AAEG;C`
 abbrev pair : List ℕ
@@ -83,12 +84,12 @@ pub both_twins : bytes_in twins (zeros 0 2) ≡ 65 ∷ 65 ∷ 65 ∷ 65 ∷ 44 �
 unfolding token_at tokens_from char_of vlq_value digits_of lead base_of fields_of spelled bytes_of after written
 both_twins = refl
 
--- with 5 bytes of room the pair's 6 are refused, and the chunk is given back
-pub no_room : encoded pair (zeros 0 2) 5 ≡ given_back (zeros 0 2) (Code.NoRoom 6)
+-- with 5 bytes of room the pair's 6 are refused
+pub no_room : encoded pair (zeros 0 2) 5 ≡ Err (Code.NoRoom 6)
 unfolding token_at tokens_from char_of vlq_value digits_of lead base_of fields_of spelled bytes_of after written end_of first_back encoded
 no_room = refl
 
 -- a previous line of 1, and a token on line 0
-pub goes_back : encoded pair (chunk 0 2 1 0 0 0 0 0) 6 ≡ given_back (chunk 0 2 1 0 0 0 0 0) (Code.LineGoesBack 0)
+pub goes_back : encoded pair (chunk 0 2 1 0 0 0 0 0) 6 ≡ Err (Code.LineGoesBack 0)
 unfolding token_at tokens_from char_of vlq_value digits_of lead base_of fields_of spelled bytes_of after written end_of first_back encoded
 goes_back = refl

@@ -8,7 +8,6 @@ use native.Mathlib.Decide.{dec_le}
 use native.Mathlib.Nat.{lt_of_not-le}
 use lib.Dec.{eqb}
 use lib.ListN.{length}
-use Rattle.code.specs.declared.Code.{Code}
 use Rattle.token.specs.Table.{token_at}
 use Rattle.token.specs.declared.Token.{Token}
 use Rattle.token.specs.declared.TokenChunk.{TokenChunk}
@@ -66,7 +65,7 @@ module _ (table : List ℕ) (c : TokenChunk) (out₀ out : List ℕ) (p : TokenC
 
   -- next is the end state as the code has it
   pub written_all : c.end ≤ i → (next : TokenChunk) → next ≡ next_chunk c.end p
-      → Writes table c out₀ (record { code = Code.Done; bytes = at; next = next }) out
+      → Writes table c out₀ (record { bytes = at; next = next }) out
   written_all h next e =
       let q = put_onto out₀ (bytes_in table c) at out (due_none out₀ 0 (bytes_in table c) (bytes table c.end i p) at out f.due (bytes_none table c.end i h p)) in
       let z : end_of c (tokens_in table c) ≡ p = f.ends ∙ end_none table c.end i h p in

@@ -1,9 +1,9 @@
 -- docs/RULES.md, Writing: the answer of the writer, its refusals in order, and what the lent bytes hold then. Assumes nothing.
-use Rattle.std.specs.Prelude.{◌≡◌, Bool, true, List, ℕ, ◌-◌, ltb, eqb, length}
+use Rattle.std.specs.Prelude.{◌≡◌, Bool, true, List, ℕ, ◌-◌, ltb, length, Result, Ok, Err}
+use Rattle.std.specs.Result.{is_ok}
 use Rattle.std.proofs.Math.Option.{Option, none, some}
 use Rattle.list.specs.Memory.{onto}
 use Rattle.list.specs.Pick.{pick}
-use Rattle.code.specs.Code.{code_of}
 use Rattle.code.specs.declared.Code.{Code}
 use Rattle.token.specs.Table.{places, bad_table, tokens_from}
 use Rattle.token.specs.declared.Token.{Token}
@@ -27,24 +27,30 @@ bad_chunk table c = pick (ltb c.end c.start) true (ltb (places (length table)) c
 abbrev pub next_chunk : ℕ → TokenChunk → TokenChunk
 next_chunk end p = with_ends end end p
 
--- a refusal counts no bytes and gives back the chunk it was given
-abbrev pub given_back : TokenChunk → Code → Encoded
-given_back c code = record { code = code; bytes = 0; next = c }
+-- the token that goes back is the code's number
+abbrev pub unless_back : Option ℕ → Result Encoded Code → Result Encoded Code
+unless_back (some i) r = Err (Code.LineGoesBack i)
+unless_back none r = r
 
-abbrev pub unless_back : TokenChunk → Option ℕ → Encoded → Encoded
-unless_back c (some i) r = given_back c (Code.LineGoesBack i)
-unless_back c none r = r
-
--- BadTable, BadChunk, LineGoesBack, NoRoom, in this order; else done
-unfoldable pub encoded : List ℕ → TokenChunk → ℕ → Encoded
+-- BadTable, BadChunk, LineGoesBack, NoRoom, in this order; else the bytes written and the state for the chunk behind
+unfoldable pub encoded : List ℕ → TokenChunk → ℕ → Result Encoded Code
 encoded table c room =
-    pick (bad_table (length table)) (given_back c Code.BadTable)
-    (pick (bad_chunk table c) (given_back c Code.BadChunk)
-    (unless_back c (first_back c.start c.prev_dst_line (tokens_in table c))
-    (pick (ltb room (length (bytes_in table c))) (given_back c (Code.NoRoom (length (bytes_in table c))))
-    (record { code = Code.Done; bytes = length (bytes_in table c); next = next_chunk c.end (end_of c (tokens_in table c)) }))))
+    pick (bad_table (length table)) (Err Code.BadTable)
+    (pick (bad_chunk table c) (Err Code.BadChunk)
+    (unless_back (first_back c.start c.prev_dst_line (tokens_in table c))
+    (pick (ltb room (length (bytes_in table c))) (Err (Code.NoRoom (length (bytes_in table c))))
+    (Ok (record { bytes = length (bytes_in table c); next = next_chunk c.end (end_of c (tokens_in table c)) })))))
+
+-- of an answer, the bytes that it counts and the state that it leaves: a refusal counts none, and leaves the chunk that it was given
+abbrev pub bytes_out : Result Encoded Code → ℕ
+bytes_out (Ok e) = e.bytes
+bytes_out (Err code) = 0
+
+abbrev pub next_out : TokenChunk → Result Encoded Code → TokenChunk
+next_out c (Ok e) = e.next
+next_out c (Err code) = c
 
 -- a writer's answer, and what the lent bytes hold then: what is written, if it is done, and past that what they held before
-pub record Encodes (table : List ℕ) (c : TokenChunk) (out : List ℕ) (r : Encoded) (out' : List ℕ) : Type 0 where
+pub record Encodes (table : List ℕ) (c : TokenChunk) (out : List ℕ) (r : Result Encoded Code) (out' : List ℕ) : Type 0 where
   pub says : r ≡ encoded table c (length out)
-  pub wrote : out' ≡ pick (eqb (code_of (encoded table c (length out)).code) 0) (onto (bytes_in table c) out) out
+  pub wrote : out' ≡ pick (is_ok (encoded table c (length out))) (onto (bytes_in table c) out) out

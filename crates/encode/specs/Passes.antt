@@ -7,9 +7,6 @@ use Rattle.code.specs.declared.Code.{Code}
 use Rattle.token.specs.Table.{places}
 use Rattle.token.specs.declared.TokenChunk.{TokenChunk}
 use Rattle.encode.specs.declared.Encoded.{Encoded}
-use Rattle.encode.specs.declared.Count.{Count}
-use Rattle.encode.specs.declared.Order.{Order}
-use Rattle.encode.specs.declared.Order.TheVariants.{Back, Forth}
 use Rattle.chunk.specs.Chunk.{first_back, end_of}
 use Rattle.encode.specs.Encode.{tokens_in, bytes_in, next_chunk}
 
@@ -18,16 +15,17 @@ pub record Inside (table : List ℕ) (c : TokenChunk) : Type 0 where
   pub order : c.start ≤ c.end
   pub within : c.end ≤ places (length table)
 
+-- a line goes back, and the code says which
+pub record Backs (table : List ℕ) (c : TokenChunk) (code : Code) : Type 0 where
+  pub at : ℕ
+  pub back : first_back c.start c.prev_dst_line (tokens_in table c) ≡ some at
+  pub says : code ≡ Code.LineGoesBack at
+
 -- no line goes back, the last is `last`, and the bytes are at most 36 for each token and one for each line
 pub record Rising (table : List ℕ) (c : TokenChunk) (last : ℕ) : Type 0 where
   pub forth : first_back c.start c.prev_dst_line (tokens_in table c) ≡ none
   pub later : c.prev_dst_line ≤ last
   pub most : length (bytes_in table c) ≤ 36 * (c.end - c.start) + (last - c.prev_dst_line)
-
--- what the pass over the lines found
-unfoldable pub Lined : List ℕ → TokenChunk → Order → Type 0
-Lined table c (Back i) = first_back c.start c.prev_dst_line (tokens_in table c) ≡ some i
-Lined table c (Forth last) = Rising table c last
 
 -- r is the bytes needed, or a bound of them that the room holds
 pub record Bounds (needed room r : ℕ) : Type 0 where
@@ -39,20 +37,10 @@ pub record Counted (table : List ℕ) (c : TokenChunk) (n : ℕ) : Type 0 where
   pub forth : first_back c.start c.prev_dst_line (tokens_in table c) ≡ none
   pub is : n ≡ length (bytes_in table c)
 
--- what the pass that counts found
-unfoldable pub Measures : List ℕ → TokenChunk → Count → Type 0
-Measures table c (Count.Back i) = first_back c.start c.prev_dst_line (tokens_in table c) ≡ some i
-Measures table c (Count.Needs n) = Counted table c n
-
 -- no line goes back, and n is the bytes needed, or a bound of them that the room holds
 pub record Bounded (table : List ℕ) (c : TokenChunk) (room n : ℕ) : Type 0 where
   pub forth : first_back c.start c.prev_dst_line (tokens_in table c) ≡ none
   pub bounds : Bounds (length (bytes_in table c)) room n
-
--- what the passes before the writing found
-unfoldable pub Suffices : List ℕ → TokenChunk → ℕ → Count → Type 0
-Suffices table c room (Count.Back i) = first_back c.start c.prev_dst_line (tokens_in table c) ≡ some i
-Suffices table c room (Count.Needs n) = Bounded table c room n
 
 -- the chunk lies in the table, no line goes back, and there is room
 pub record Writable (table : List ℕ) (c : TokenChunk) (out : List ℕ) : Type 0 where
@@ -62,5 +50,5 @@ pub record Writable (table : List ℕ) (c : TokenChunk) (out : List ℕ) : Type 
 
 -- the chunk is written
 pub record Writes (table : List ℕ) (c : TokenChunk) (out : List ℕ) (r : Encoded) (out' : List ℕ) : Type 0 where
-  pub says : r ≡ record { code = Code.Done; bytes = length (bytes_in table c); next = next_chunk c.end (end_of c (tokens_in table c)) }
+  pub says : r ≡ record { bytes = length (bytes_in table c); next = next_chunk c.end (end_of c (tokens_in table c)) }
   pub wrote : out' ≡ onto (bytes_in table c) out

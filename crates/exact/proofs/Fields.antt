@@ -1,4 +1,5 @@
 -- The fields of a segment that is read stand in the text as runs, one behind the other. Assumes nothing.
+use Rattle.std.specs.Prelude.{Some, None, Ok, Err}
 use mathlib.Core.Path.{◌≡◌, refl, sym, ◌∙◌, ap}
 use mathlib.Core.Bool.{true}
 use mathlib.Core.List.{List, [], ◌∷◌, ◌++◌, append_assoc}
@@ -8,12 +9,11 @@ use lib.ListN.{drop}
 use Rattle.value.specs.Standard.{Run, is_run, unsigned, signed}
 use Rattle.value.specs.Value.{value_of}
 use Rattle.vlq.specs.Runs.{spell}
-use Rattle.vlq.specs.Vlq.{vlq_of}
-use Rattle.vlq.specs.declared.Vlq.{Vlq}
-use Rattle.vlq.specs.declared.Vlq.TheVariants.{End, Value, Leftover, Overflow}
+use Rattle.vlq.specs.Vlq.{vlq_of, Vlq}
 use Rattle.segment.specs.Segment.{Field, Fields, whole, leftover, overflow, before, field_then, fields_from}
 use Rattle.exact.specs.Exact.{mode, as_read}
 use Rattle.exact.proofs.Runs.{Stands, Standing, standing}
+use Rattle.vlq.specs.declared.Broken.{Broken}
 
 -- a field, and the run that it stands as
 pub record Known : Type 0 where
@@ -80,8 +80,8 @@ parted zero at (b ∷ bs) = by (vlq_of at (b ∷ bs)) (standing at (b ∷ bs)) (
   where
     by : (r : Vlq) → Standing at (b ∷ bs) r → ((next : ℕ) → Parted (next - (at + 1)) (at + 1) bs (fields_from mode (next - (at + 1)) (at + 1) bs))
         → Parted 0 at (b ∷ bs) (field_then mode at r (λ next. fields_from mode (next - (at + 1)) (at + 1) bs))
-    by End v ih = none_here 0 at (b ∷ bs) refl
-    by (Value bits lost next) v ih =
+    by (Ok None) v ih = none_here 0 at (b ∷ bs) refl
+    by (Ok (Some (bits, lost, next))) v ih =
         value_then at b bs bits lost next _ refl v (fields_from mode (next - (at + 1)) (at + 1) bs) (ih next)
-    by (Leftover place) v ih = tt
-    by (Overflow place) v ih = tt
+    by (Err (Broken.Leftover place)) v ih = tt
+    by (Err (Broken.Overflow place)) v ih = tt

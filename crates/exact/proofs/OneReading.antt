@@ -1,4 +1,5 @@
 -- A text has one reading: parts that are spelled alike have the same values, so the same sums. Assumes nothing.
+use Rattle.std.specs.Prelude.{Some}
 use mathlib.Core.Path.{◌≡◌, refl, sym, ◌∙◌, ap, subst}
 use mathlib.Core.Bool.{true}
 use mathlib.Core.List.{List, [], ◌∷◌, ◌++◌, append_assoc, append-nil}
@@ -12,7 +13,6 @@ use Rattle.list.proofs.Pick.{both_true}
 use Rattle.digits.specs.Digits.{digit_of, is_delim, char_of}
 use Rattle.digits.proofs.Tables.{char}
 use Rattle.value.specs.Standard.{Run, terminal, goes_on, is_run, unsigned, signed}
-use Rattle.value.specs.declared.Judged.TheVariants.{Is}
 use Rattle.vlq.specs.Runs.{spell}
 use Rattle.segment.proofs.Border.{Border}
 use Rattle.exact.specs.Text.{Value, Segment, nothing, one, four, five, Delimiter, comma, semicolon, character, Part, spell_segment, spell_parts, Numbers, begun, added, delimited, token_of, parts_tokens}
@@ -89,7 +89,7 @@ numbers_of [] = []
 numbers_of (v ∷ vs) = v.number ∷ numbers_of vs
 
 same_number : (v u : Value) → v.run ≡ u.run → v.number ≡ u.number
-same_number v u e = let x : Is v.number ≡ Is u.number = sym v.says ∙ ap (λ (r : Run). signed (unsigned r)) e ∙ u.says in cc
+same_number v u e = let x : Some v.number ≡ Some u.number = sym v.says ∙ ap (λ (r : Run). signed (unsigned r)) e ∙ u.says in cc
 
 same_values : (vs us : List Value) (l m : List ℕ) → Border l → Border m → spelled vs ++ l ≡ spelled us ++ m → (numbers_of vs ≡ numbers_of us) × (l ≡ m)
 same_values [] [] l m p q w = (refl, w)

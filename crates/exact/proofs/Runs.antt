@@ -1,5 +1,6 @@
 -- A value that is read stands in the text as a run of the standard's digits, and checked mode takes it for what the run says. Assumes
 -- nothing.
+use Rattle.std.specs.Prelude.{Some, None, Ok, Err}
 use mathlib.Core.Path.{◌≡◌, refl, ◌∙◌, ap}
 use mathlib.Core.Bool.{Bool, true, false}
 use mathlib.Core.List.{List, [], ◌∷◌, ◌++◌}
@@ -15,10 +16,9 @@ use Rattle.value.specs.Standard.{Run, terminal, goes_on, is_run, unsigned, signe
 use Rattle.value.specs.Value.{value_of}
 use Rattle.value.proofs.Standard.{value_standard}
 use Rattle.vlq.specs.Runs.{spell}
-use Rattle.vlq.specs.Vlq.{Digits, cut, long, num, push, digits_from, vlq_from, vlq_of}
-use Rattle.vlq.specs.declared.Vlq.{Vlq}
-use Rattle.vlq.specs.declared.Vlq.TheVariants.{End, Value, Leftover, Overflow}
+use Rattle.vlq.specs.Vlq.{Digits, cut, long, num, push, digits_from, vlq_from, vlq_of, Vlq}
 use Rattle.exact.specs.Exact.{mode, as_read}
+use Rattle.vlq.specs.declared.Broken.{Broken}
 
 -- ---- a digit
 up_to : (lo hi b : ℕ) → within lo hi b ≡ true → b ≤ hi
@@ -100,10 +100,10 @@ pub record Stands (at : ℕ) (bs : List ℕ) (bits lost next : ℕ) : Type 0 whe
   pub spelled : as_read bs ≡ spell run ++ as_read (drop (next - at) bs)
 
 abbrev pub Standing : ℕ → List ℕ → Vlq → Type 0
-Standing at bs End = Unit {0}
-Standing at bs (Value bits lost next) = Stands at bs bits lost next
-Standing at bs (Leftover place) = Unit {0}
-Standing at bs (Overflow place) = Unit {0}
+Standing at bs (Ok None) = Unit {0}
+Standing at bs (Ok (Some (bits, lost, next))) = Stands at bs bits lost next
+Standing at bs (Err (Broken.Leftover place)) = Unit {0}
+Standing at bs (Err (Broken.Overflow place)) = Unit {0}
 
 from_digits : (at : ℕ) (bs : List ℕ) (r : Digits) → Reads bs r → Standing at bs (vlq_from at r)
 from_digits at bs (cut k) h = tt
@@ -123,6 +123,6 @@ unfolding vlq_of
 standing at [] = tt
 standing at (b ∷ bs) = by (is_delim b)
   where
-    by : (t : Bool) → Standing at (b ∷ bs) (pick t End (vlq_from at (digits_from 13 (b ∷ bs))))
+    by : (t : Bool) → Standing at (b ∷ bs) (pick t (Ok None) (vlq_from at (digits_from 13 (b ∷ bs))))
     by true = tt
     by false = from_digits at (b ∷ bs) (digits_from 13 (b ∷ bs)) (reads 13 (b ∷ bs))

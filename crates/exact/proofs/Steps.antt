@@ -1,4 +1,5 @@
 -- A step of checked mode, and the parts of the text that it passes: the token shows their sums. Assumes nothing.
+use Rattle.std.specs.Prelude.{Some, None, Ok, Err}
 use mathlib.Core.Path.{◌≡◌, refl, sym, ◌∙◌, ap, subst}
 use mathlib.Core.Bool.{Bool, true, false}
 use mathlib.Core.List.{List, [], ◌∷◌, ◌++◌}
@@ -11,19 +12,17 @@ use Rattle.list.specs.Pick.{pick}
 use Rattle.digits.specs.Digits.{is_delim}
 use Rattle.token.specs.Table.{with_segment}
 use Rattle.token.specs.declared.Token.{Token}
-use Rattle.segment.specs.Segment.{Field, Fields, leftover, overflow, starts, segment_of, fields_from}
+use Rattle.segment.specs.Segment.{Field, Fields, leftover, overflow, starts, fields_from, gathered}
 use Rattle.segment.specs.Segment as segment
 use Rattle.segment.proofs.Border.{Border, Ends, ends}
 use Rattle.apply.specs.declared.State.{State}
-use Rattle.apply.specs.declared.Applied.{Applied}
-use Rattle.apply.specs.Apply.{applied}
+use Rattle.apply.specs.Apply.{applied, refusal, Applied}
 use Rattle.apply.proofs.Lands.{Lands, lands}
-use Rattle.step.specs.declared.Step.{Step}
-use Rattle.step.specs.Step.{commaed, lined, stepped, segment_step, step_from}
+use Rattle.step.specs.Step.{commaed, lined, stepped, segment_step, step_from, refused, Step}
 use Rattle.exact.specs.Text.{Segment, nothing, Delimiter, comma, semicolon, character, Part, spell_segment, spell_parts, Numbers, added, delimited, token_of, parts_tokens}
 use Rattle.exact.specs.Exact.{mode, as_read, wholes}
 use Rattle.exact.proofs.Fields.{Parted, parted}
-use Rattle.exact.proofs.Sums.{Refusal, other, Tracks, Takes, takes}
+use Rattle.exact.proofs.Sums.{other, Tracks, Takes, takes}
 
 -- the bytes at the state's place, which begin with a delimiter or are none, and the tokens to come
 pub record Behind (s : State) (bs : List ℕ) (ts : List Token) : Type 0 where
@@ -82,33 +81,33 @@ yes_no e = absurd (subst T e tt)
 module _ (sources names : ℕ) where
   -- ---- a step: what stands behind the token that it gives is known
   abbrev pub Goes : State → List ℕ → Step → Type 0
-  Goes s bs (Step.Put t begin s') =
+  Goes s bs (Ok (Some (t, begin, s'))) =
       (s.at ≤ s'.at) × (Border (drop (s'.at - s.at) bs) × ((ts : List Token) → begin < 2 ^ 32 → Behind s' (drop (s'.at - s.at) bs) ts → Both s bs (with_segment t begin ∷ ts)))
-  Goes s bs (Step.Refuse code offset) = Refusal code
-  Goes s bs Step.Done = Both s bs []
+  Goes s bs (Err r) = Unit {0}
+  Goes s bs (Ok None) = Both s bs []
 
   later : (s : State) (d : Delimiter) (b : ℕ) (bs : List ℕ) (r : Step) → (after s d).at ≡ s.at + 1 → b ≡ character d → Goes (after s d) bs r → Goes s (b ∷ bs) r
-  later s d b bs (Step.Put t begin s') a e h =
+  later s d b bs (Ok (Some (t, begin, s'))) a e h =
       let n : s'.at - s.at ≡ suc (s'.at - (after s d).at) = omega (arith, h.0, a) in
       (omega (arith, h.0, a), (rw n h.1.0, λ ts u p. past_one s d b bs (with_segment t begin ∷ ts) e (h.1.1 ts u (rw n at p)).0))
-  later s d b bs (Step.Refuse code offset) a e h = h
-  later s d b bs Step.Done a e h = past_one s d b bs [] e h.0
+  later s d b bs (Err r) a e h = h
+  later s d b bs (Ok None) a e h = past_one s d b bs [] e h.0
 
   segment_goes : (s : State) (b : ℕ) (bs : List ℕ) → is_delim b ≡ false → (f : Fields) → fields_from mode 0 s.at (b ∷ bs) ≡ f → Parted 0 s.at (b ∷ bs) f
       → Goes s (b ∷ bs) (segment_step mode sources names s f)
   unfolding segment_step wholes
-  segment_goes s b bs d (leftover place) e p = λ q. other cc
-  segment_goes s b bs d (overflow place) e p = λ q. other cc
+  segment_goes s b bs d (leftover place) e p = tt
+  segment_goes s b bs d (overflow place) e p = tt
   segment_goes s b bs d (segment.whole fs next) e p =
-      by (applied mode sources names s (segment_of (segment.whole fs next))) (lands mode sources names (segment_of (segment.whole fs next)) s)
-      (subst (λ (x : List Field). Takes p.known s (applied mode sources names s (segment_of (segment.whole x next)))) (sym p.fields) (takes sources names s next border.0 p.known))
+      by (applied mode sources names s (gathered fs next)) (lands mode sources names (gathered fs next) s)
+      (subst (λ (x : List Field). Takes p.known s (applied mode sources names s (gathered x next))) (sym p.fields) (takes sources names s next border.0 p.known))
     where
       border : Ends s.at (b ∷ bs) (segment.whole fs next)
       border = subst (Ends s.at (b ∷ bs)) e (ends mode 0 s.at (b ∷ bs))
 
       by : (a : Applied) → Lands next a → Takes p.known s a → Goes s (b ∷ bs) (stepped s.at (starts fs) a)
-      by (Applied.Refused code about) l k = k
-      by (Applied.Took t s') l k = (
+      by (Err r) l k = k
+      by (Ok (t, s')) l k = (
         rw l border.0,
         (
           rw l border.1,

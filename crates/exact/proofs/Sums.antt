@@ -1,5 +1,6 @@
 -- What checked mode keeps is the sum itself: a segment that it takes has one, four or five values, adds each, and shows the sums. Assumes
 -- nothing.
+use Rattle.std.specs.Prelude.{Option, Some, None, Result, Ok, Err}
 use mathlib.Core.Path.{◌≡◌, refl, sym, ◌∙◌, ap}
 use mathlib.Core.Bool.{Bool, true, false}
 use mathlib.Core.List.{List, [], ◌∷◌, ◌++◌, append-nil}
@@ -16,30 +17,25 @@ use Rattle.code.specs.declared.Code.{Code}
 use Rattle.token.specs.Table.{no_id}
 use Rattle.token.specs.declared.Token.{Token}
 use Rattle.value.specs.Value.{number_of, is_wide}
-use Rattle.value.specs.declared.Judged.{Judged}
-use Rattle.value.specs.declared.Judged.TheVariants.{Is, Wide}
 use Rattle.vlq.specs.Runs.{spell}
-use Rattle.segment.specs.Segment.{Field, whole, wide_from, segment_of}
+use Rattle.segment.specs.Segment.{Field, whole, wide_from, gathered}
 use Rattle.segment.specs.declared.Segment as read
 use Rattle.sums.specs.Sums.{reduced_of, sum_of, id_of, name_sum_of}
-use Rattle.sums.specs.declared.Kept.{Kept}
-use Rattle.sums.specs.declared.Id.{Id}
 use Rattle.apply.specs.declared.State.{State}
 use Rattle.apply.specs.declared.About.{About}
-use Rattle.apply.specs.declared.Moved.{Moved}
-use Rattle.apply.specs.declared.Applied.{Applied}
 use Rattle.apply.specs.Apply as apply
-use Rattle.apply.specs.Apply.{with_column, with_source, with_name, kept, num, columned, sourced, mapped, named, onward, counted, applied}
+use Rattle.apply.specs.Apply.{with_column, with_source, with_name, kept, num, columned, sourced, mapped, named, onward, counted, unless_wide, applied, refusal, Moved, Applied}
 use Rattle.exact.specs.Text.{Value, Segment, one, four, five, spell_segment, Numbers, added, shown, token_of}
 use Rattle.exact.specs.Exact as exact
 use Rattle.exact.specs.Exact.{mode}
 use Rattle.exact.proofs.Fields.{Known, fields_of, spell_all}
+use Rattle.sums.specs.declared.Unkept.{Unkept}
 
 -- ---- what is kept
-abbrev Keeps : ℤ → Kept → Type 0
-Keeps z Kept.Negative = Unit {0}
-Keeps z Kept.Wide = Unit {0}
-Keeps z (Kept.At n) = pos n ≡ z
+abbrev Keeps : ℤ → (Result ℕ Unkept) → Type 0
+Keeps z (Err Unkept.Negative) = Unit {0}
+Keeps z (Err Unkept.Wide) = Unit {0}
+Keeps z (Ok n) = pos n ≡ z
 
 sum_is : (z : ℤ) → Keeps z (sum_of mode z)
 unfolding sum_of reduced_of
@@ -51,37 +47,33 @@ unfolding name_sum_of reduced_of
 name_is (pos n) = pick_ind (Keeps (pos n)) (ltb n (2 ^ 32)) (λ _. refl) (λ _. tt)
 name_is (negsuc n) = tt
 
-abbrev Points : ℤ → Id → Type 0
-Points z Id.Outside = Unit {0}
-Points z (Id.Is n) = pos n ≡ z
+abbrev Points : ℤ → (Option ℕ) → Type 0
+Points z None = Unit {0}
+Points z (Some n) = pos n ≡ z
 
 id_is : (count : ℕ) (z : ℤ) → Points z (id_of count z)
 unfolding id_of
 id_is count (pos n) = pick_ind (Points (pos n)) (ltb n count) (λ _. refl) (λ _. tt)
 id_is count (negsuc n) = tt
 
--- a code that is a refusal's
-abbrev pub Refusal : Code → Type 0
-Refusal code = code ≡ Code.Done → ⊥
-
 pub other : {A : Type 0} → ◌≡◌ {A = ℕ} 0 1 → A
 other z = absurd (omega arith)
 
 -- ---- what follows of a segment that is taken, step by step; of one that is refused, only that it is
-module _ (P : Applied → Type 0) (no : (code : Code) (about : About) → Refusal code → P (Applied.Refused code about)) where
-  kept_by : (z : ℤ) (k : Kept) → Keeps z k → (field : ℕ) (go : ℕ → Moved) (on : State → Applied) → ((n : ℕ) → pos n ≡ z → P (onward (go n) on)) → P (onward (kept k field go) on)
-  kept_by z Kept.Negative e field go on h = no _ _ (λ q. other cc)
-  kept_by z Kept.Wide e field go on h = no _ _ (λ q. other cc)
-  kept_by z (Kept.At n) e field go on h = h n e
+module _ (P : Applied → Type 0) (no : (code : Code) (about : About) → P (Err (refusal code about))) where
+  kept_by : (z : ℤ) (k : Result ℕ Unkept) → Keeps z k → (field : ℕ) (go : ℕ → Moved) (on : State → Applied) → ((n : ℕ) → pos n ≡ z → P (onward (go n) on)) → P (onward (kept k field go) on)
+  kept_by z (Err Unkept.Negative) e field go on h = no _ _
+  kept_by z (Err Unkept.Wide) e field go on h = no _ _
+  kept_by z (Ok n) e field go on h = h n e
 
-  source_by : (s : State) (z : ℤ) (i : Id) → Points z i → (go : ℕ → Moved) (on : State → Applied) → ((n : ℕ) → pos n ≡ z → P (onward (go n) on)) → P (onward (sourced s i go) on)
-  source_by s z Id.Outside e go on h = no _ _ (λ q. other cc)
-  source_by s z (Id.Is n) e go on h = h n e
+  source_by : (s : State) (z : ℤ) (i : Option ℕ) → Points z i → (go : ℕ → Moved) (on : State → Applied) → ((n : ℕ) → pos n ≡ z → P (onward (go n) on)) → P (onward (sourced s i go) on)
+  source_by s z None e go on h = no _ _
+  source_by s z (Some n) e go on h = h n e
 
   columned_by : (s : State) (g : read.Segment) (on : State → Applied)
       → ((n : ℕ) → pos n ≡ pos s.dst_col +ℤ num 0 g → P (on (with_column s n g.next))) → P (onward (columned mode s g) on)
   unfolding columned
-  columned_by s g on h = kept_by _ (sum_of mode (pos s.dst_col +ℤ num 0 g)) (sum_is _) 0 (λ n. Moved.To (with_column s n g.next)) on h
+  columned_by s g on h = kept_by _ (sum_of mode (pos s.dst_col +ℤ num 0 g)) (sum_is _) 0 (λ n. Ok (with_column s n g.next)) on h
 
   mapped_by : (sources : ℕ) (s : State) (g : read.Segment) (on : State → Applied)
       → ((i l c : ℕ) → pos i ≡ pos s.source_id +ℤ num 1 g → pos l ≡ pos s.src_line +ℤ num 2 g → pos c ≡ pos s.src_col +ℤ num 3 g → P (on (with_source s i l c)))
@@ -97,12 +89,12 @@ module _ (P : Applied → Type 0) (no : (code : Code) (about : About) → Refusa
   unfolding named
   named_by names s g on h =
       kept_by _ (name_sum_of mode (pos s.name_id +ℤ num 4 g)) (name_is _) 4 _ on λ n e.
-      pick_ind (λ (m : Moved). P (onward m on)) (ltb n names) (λ _. h n e) (λ _. no _ _ (λ q. other cc))
+      pick_ind (λ (m : Moved). P (onward m on)) (ltb n names) (λ _. h n e) (λ _. no _ _)
 
 -- ---- a field that is not too wide is a value
-is_number : (j : Judged) → is_wide j ≡ false → j ≡ Is (number_of j)
-is_number (Is z) e = refl
-is_number Wide e = absurd (omega (arith, no e))
+is_number : (j : Option ℤ) → is_wide j ≡ false → j ≡ Some (number_of j)
+is_number (Some z) e = refl
+is_number None e = absurd (omega (arith, no e))
   where
     no : true ≡ false → ◌≡◌ {A = ℕ} 0 1
     no z = cc
@@ -110,12 +102,12 @@ is_number Wide e = absurd (omega (arith, no e))
 abbrev value_of : (k : Known) → is_wide k.field.value ≡ false → Value
 value_of k n = record { run = k.run; digits = k.digits; number = number_of k.field.value; says = sym k.value ∙ is_number k.field.value n }
 
-narrow : (i : ℕ) (f : Field) (fs : List Field) → i < 5 → (wide_from i (f ∷ fs) < 5 → ⊥) → (is_wide f.value ≡ false) × (wide_from (i + 1) fs < 5 → ⊥)
+narrow : (i : ℕ) (f : Field) (fs : List Field) → i < 5 → wide_from i (f ∷ fs) ≡ None → (is_wide f.value ≡ false) × (wide_from (i + 1) fs ≡ None)
 unfolding wide_from
 narrow i f fs l n = by (is_wide f.value) refl (rw (lt-ltb i 5 l) at n)
   where
-    by : (t : Bool) → is_wide f.value ≡ t → (pick (both t true) i (wide_from (i + 1) fs) < 5 → ⊥) → (is_wide f.value ≡ false) × (wide_from (i + 1) fs < 5 → ⊥)
-    by true e q = absurd (q l)
+    by : (t : Bool) → is_wide f.value ≡ t → pick (both t true) (Some i) (wide_from (i + 1) fs) ≡ None → (is_wide f.value ≡ false) × (wide_from (i + 1) fs ≡ None)
+    by true e q = other cc
     by false e q = (e, q)
 
 -- ---- the state's numbers are these sums, and there are no more lines than bytes before its place
@@ -142,16 +134,16 @@ pub record Taken (ks : List Known) (s : State) (t : Token) (s' : State) : Type 0
   pub shown : (w : Numbers) → Tracks s w → s.at < 2 ^ 32 → token_of (added w segment) segment ≡ exact.whole t ∷ []
 
 abbrev pub Takes : List Known → State → Applied → Type 0
-Takes ks s (Applied.Took t s') = Taken ks s t s'
-Takes ks s (Applied.Refused code about) = Refusal code
+Takes ks s (Ok (t, s')) = Taken ks s t s'
+Takes ks s (Err r) = Unit {0}
 
 -- ---- by the number of fields
 module _ (sources names : ℕ) (s : State) (next : ℕ) (forth : s.at ≤ next) where
-  no : (ks : List Known) (code : Code) (about : About) → Refusal code → Takes ks s (Applied.Refused code about)
-  no ks code about h = h
+  no : (ks : List Known) (code : Code) (about : About) → Takes ks s (Err (refusal code about))
+  no ks code about = tt
 
   abbrev segment : List Known → read.Segment
-  segment ks = segment_of (whole (fields_of ks) next)
+  segment ks = gathered (fields_of ks) next
 
   -- past the test for a value that is too wide
   abbrev steps : List Known → Applied
@@ -251,21 +243,21 @@ module _ (sources names : ℕ) (s : State) (next : ℕ) (forth : s.at ≤ next) 
           ks = k₀ ∷ k₁ ∷ k₂ ∷ k₃ ∷ k₄ ∷ []
 
   -- any other number is refused
-  refused : (ks : List Known) → (length (fields_of ks) ≡ 1 → ⊥) → (length (fields_of ks) ≡ 4 → ⊥) → (length (fields_of ks) ≡ 5 → ⊥) → Takes ks s (steps ks)
+  not_taken : (ks : List Known) → (length (fields_of ks) ≡ 1 → ⊥) → (length (fields_of ks) ≡ 4 → ⊥) → (length (fields_of ks) ≡ 5 → ⊥) → Takes ks s (steps ks)
   unfolding counted
-  refused ks p q r =
+  not_taken ks p q r =
       columned_by (Takes ks s) (no ks) s (segment ks) _ λ n e.
-      rw (ne_eqb (length (fields_of ks)) 1 p, ne_eqb (length (fields_of ks)) 4 q, ne_eqb (length (fields_of ks)) 5 r) (λ q. other cc)
+      rw (ne_eqb (length (fields_of ks)) 1 p, ne_eqb (length (fields_of ks)) 4 q, ne_eqb (length (fields_of ks)) 5 r) tt
 
   -- the first field is not too wide, nor is one of the four behind it
   abbrev Narrow : ℕ → List Known → Type 0
-  Narrow i ks = wide_from i (fields_of ks) < 5 → ⊥
+  Narrow i ks = wide_from i (fields_of ks) ≡ None
 
   by_count : (ks : List Known) → Narrow 0 ks → Takes ks s (steps ks)
-  by_count [] h = refused [] (λ e. omega arith) (λ e. omega arith) (λ e. omega arith)
+  by_count [] h = not_taken [] (λ e. omega arith) (λ e. omega arith) (λ e. omega arith)
   by_count (k₀ ∷ []) h = with_one k₀ (narrow 0 k₀.field [] (omega arith) h).0
-  by_count (k₀ ∷ k₁ ∷ []) h = refused (k₀ ∷ k₁ ∷ []) (λ e. omega arith) (λ e. omega arith) (λ e. omega arith)
-  by_count (k₀ ∷ k₁ ∷ k₂ ∷ []) h = refused (k₀ ∷ k₁ ∷ k₂ ∷ []) (λ e. omega arith) (λ e. omega arith) (λ e. omega arith)
+  by_count (k₀ ∷ k₁ ∷ []) h = not_taken (k₀ ∷ k₁ ∷ []) (λ e. omega arith) (λ e. omega arith) (λ e. omega arith)
+  by_count (k₀ ∷ k₁ ∷ k₂ ∷ []) h = not_taken (k₀ ∷ k₁ ∷ k₂ ∷ []) (λ e. omega arith) (λ e. omega arith) (λ e. omega arith)
   by_count (k₀ ∷ k₁ ∷ k₂ ∷ k₃ ∷ []) h =
       let h₀ = narrow 0 k₀.field (fields_of (k₁ ∷ k₂ ∷ k₃ ∷ [])) (omega arith) h in
       let h₁ = narrow 1 k₁.field (fields_of (k₂ ∷ k₃ ∷ [])) (omega arith) h₀.1 in
@@ -278,10 +270,12 @@ module _ (sources names : ℕ) (s : State) (next : ℕ) (forth : s.at ≤ next) 
       let h₃ = narrow 3 k₃.field (fields_of (k₄ ∷ [])) (omega arith) h₂.1 in
       with_five k₀ h₀.0 k₁ k₂ k₃ h₁.0 h₂.0 h₃.0 k₄ (narrow 4 k₄.field [] (omega arith) h₃.1).0
   by_count (k₀ ∷ k₁ ∷ k₂ ∷ k₃ ∷ k₄ ∷ k₅ ∷ ks) h =
-      refused (k₀ ∷ k₁ ∷ k₂ ∷ k₃ ∷ k₄ ∷ k₅ ∷ ks) (λ e. omega arith) (λ e. omega arith) (λ e. omega arith)
+      not_taken (k₀ ∷ k₁ ∷ k₂ ∷ k₃ ∷ k₄ ∷ k₅ ∷ ks) (λ e. omega arith) (λ e. omega arith) (λ e. omega arith)
 
   pub takes : (ks : List Known) → Takes ks s (applied mode sources names s (segment ks))
   unfolding applied
-  takes ks =
-      pick_ind (Takes ks s) (ltb (wide_from 0 (fields_of ks)) 5) (λ _ q. other cc)
-      (λ e. by_count ks (λ l. omega (arith, ltb-false (wide_from 0 (fields_of ks)) 5 e, l)))
+  takes ks = by (wide_from 0 (fields_of ks)) refl
+    where
+      by : (o : Option ℕ) → wide_from 0 (fields_of ks) ≡ o → Takes ks s (unless_wide o (steps ks))
+      by (Some field) e = tt
+      by None e = by_count ks e

@@ -1,8 +1,7 @@
 -- docs/RULES.md, Demands: where the decode that names no mode takes a text, no value and no sum lost a bit, said; proofs/Exact.antt proves
 -- it. Assumes nothing.
-use Rattle.std.specs.Prelude.{◌≡◌, List, [], ◌∷◌, ℕ, ◌≤◌, pos, length, take}
+use Rattle.std.specs.Prelude.{◌≡◌, List, [], ◌∷◌, ℕ, ◌≤◌, pos, length, take, Ok}
 use Rattle.list.specs.Pick.{pick}
-use Rattle.code.specs.declared.Code.{Code}
 use Rattle.digits.specs.Digits.{digit_of, is_delim, char_of}
 use Rattle.token.specs.Table.{over}
 use Rattle.token.specs.declared.Token.{Token}
@@ -42,10 +41,10 @@ mode = by_default
 pub record NothingLost : Type 0 where
   pub taken :
       (sources names : ℕ) (text table : List ℕ) (r : Decoded) (table' : List ℕ) → Decodes mode sources names text table r table'
-      → r.code ≡ Code.Done → Exact text table r.tokens table'
+      → r.end ≡ Ok tt → Exact text table r.tokens table'
   pub kept :
       (sources names : ℕ) (text table : List ℕ) (r : Decoded) (table' : List ℕ) → Decodes mode sources names text table r table'
-      → (r.code ≡ Code.Done → ⊥) → (begin : ℕ) × (Begins text begin × ((begin ≤ r.offset) × Exact (take begin text) table r.tokens table'))
+      → (r.end ≡ Ok tt → ⊥) → (begin : ℕ) × (Begins text begin × ((begin ≤ r.offset) × Exact (take begin text) table r.tokens table'))
 
 -- a text is read in one way: parts that are spelled alike have the same sums
 abbrev pub OneReading : Type 0

@@ -1,8 +1,7 @@
 -- ECMA-426: the parts of a text, and the running sums of their values as whole numbers. No mode, no remainder and no refusal stands here.
 -- Assumes nothing.
-use Rattle.std.specs.Prelude.{◌≡◌, true, List, [], ◌∷◌, ◌++◌, ℕ, ◌+◌, ℤ, pos, ◌+ℤ◌}
+use Rattle.std.specs.Prelude.{◌≡◌, true, List, [], ◌∷◌, ◌++◌, ℕ, ◌+◌, ℤ, pos, ◌+ℤ◌, Some}
 use Rattle.value.specs.Standard.{Run, is_run, unsigned, signed}
-use Rattle.value.specs.declared.Judged.TheVariants.{Is}
 use Rattle.vlq.specs.Runs.{spell}
 use Rattle.token.specs.Table.{no_id}
 
@@ -13,7 +12,7 @@ pub record Value : Type 0 where
   pub run : Run
   pub digits : is_run run ≡ true
   pub number : ℤ
-  pub says : signed (unsigned run) ≡ Is number
+  pub says : signed (unsigned run) ≡ Some number
 
 -- a segment: one, four or five values, or nothing, as between two delimiters
 pub data Segment : Type 0 where

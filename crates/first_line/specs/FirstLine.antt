@@ -1,5 +1,5 @@
 -- docs/RULES.md, dumpmap: the first line of an input. Assumes nothing.
-use Rattle.std.specs.Prelude.{◌≡◌, List, [], ◌∷◌, ◌++◌, ℕ, ◌≤◌, length}
+use Rattle.std.specs.Prelude.{◌≡◌, List, [], ◌∷◌, ◌++◌, ℕ, ◌≤◌, length, Option, Some, None}
 use Rattle.decimal.specs.Decimal.{Figures, decimal}
 use Rattle.first_line.specs.declared.FirstLine.{FirstLine}
 
@@ -26,6 +26,6 @@ pub record Stated (input : List ℕ) (sources names at : ℕ) : Type 0 where
   pub begins : at ≡ length (counts_line ds es)
 
 -- what each answer says of the input
-abbrev pub Reads : List ℕ → FirstLine → Type 0
-Reads input (FirstLine.Counts sources names at) = Stated input sources names at
-Reads input FirstLine.Bad = (sources names at : ℕ) → Stated input sources names at → ⊥
+abbrev pub Reads : List ℕ → Option FirstLine → Type 0
+Reads input (Some l) = Stated input l.sources l.names l.text
+Reads input None = (sources names at : ℕ) → Stated input sources names at → ⊥

@@ -3,13 +3,14 @@
 
 ghost use Rattle.std.specs.Prelude.{◌≡◌};
 ghost use Rattle.first_line.specs.FirstLine.{Reads};
-ghost use Rattle.first_line.specs.Reading.{is_figure, ended_at, number_at, second};
+ghost use Rattle.first_line.specs.Reading.{ended_at, number_at};
 
 // The counts of sources and of names, and where the text begins.
 #[derive(Clone, Copy)]
-pub enum FirstLine {
-    Counts(u32, u32, usize),
-    Bad,
+pub struct FirstLine {
+    pub sources: u32,
+    pub names: u32,
+    pub text: usize,
 }
 
 // The most figures of a count.
@@ -17,82 +18,58 @@ const MOST_FIGURES: usize = 10;
 
 // A count, and where what follows its stop byte begins.
 #[derive(Clone, Copy)]
-enum Number {
-    Value(u32, usize),
-    Bad,
-}
-
-fn is_figure(b: u8) -> bool
-    ensures { result ≡ is_figure b }
-{
-    match b {
-        b'0'..=b'9' => true,
-        _ => false,
-    }
-}
-
-fn wide(b: u8) -> u64
-    ensures { result ≡ b }
-{
-    b as u64
+struct Number {
+    value: u32,
+    next: usize,
 }
 
 // What so many figures with the value n are, once the stop byte is reached.
-fn ended(figures: usize, n: u64, next: usize) -> Number
+#[tactic(auto, unfolding(crate::specs::Reading::ended_at))]
+fn ended(figures: usize, n: u64, next: usize) -> Option<Number>
     ensures { result ≡ ended_at figures n next }
 {
     if figures == 0 {
-        return Number::Bad;
+        return None;
     }
     if 4294967295 < n {
-        return Number::Bad;
+        return None;
     }
-    Number::Value(n as u32, next)
+    Some(Number {
+        value: n as u32,
+        next,
+    })
 }
 
 // The count that begins at a place and ends at a stop byte.
-fn number_at(s: &[u8], at: usize, stop: u8) -> Number
+fn number_at(s: &[u8], at: usize, stop: u8) -> Option<Number>
     ensures { result ≡ number_at s.now at stop }
 {
     let mut n: u64 = 0;
-    let mut figures: usize = 0;
-    let mut i = at;
-    while i < s.len() {
+    for i in at..s.len() {
         let b = s[i];
         if b == stop {
-            return ended(figures, n, i + 1);
+            return ended(i - at, n, i + 1);
         }
-        if !is_figure(b) {
-            return Number::Bad;
+        if !b.is_ascii_digit() {
+            return None;
         }
-        if figures == MOST_FIGURES {
-            return Number::Bad;
+        if i - at == MOST_FIGURES {
+            return None;
         }
-        n = 10 * n + (wide(b) - 48);
-        figures += 1;
-        i += 1;
+        n = 10 * n + u64::from(b - b'0');
     }
-    Number::Bad
-}
-
-// The second count, after the first.
-fn second_count(input: &[u8], sources: u32, at: usize) -> FirstLine
-    ensures { result ≡ second sources (number_at input.now at 10) }
-{
-    let names = number_at(input, at, b'\n');
-    match names {
-        Number::Value(names, text) => FirstLine::Counts(sources, names, text),
-        Number::Bad => FirstLine::Bad,
-    }
+    None
 }
 
 // The first line of an input: two counts, one space between, a newline.
-pub fn first_line(input: &[u8]) -> FirstLine
+pub fn first_line(input: &[u8]) -> Option<FirstLine>
     ensures { Reads input.now result }
 {
-    let sources = number_at(input, 0, b' ');
-    match sources {
-        Number::Value(sources, at) => second_count(input, sources, at),
-        Number::Bad => FirstLine::Bad,
-    }
+    let sources = number_at(input, 0, b' ')?;
+    let names = number_at(input, sources.next, b'\n')?;
+    Some(FirstLine {
+        sources: sources.value,
+        names: names.value,
+        text: names.next,
+    })
 }

@@ -1,46 +1,22 @@
 -- Words put one after the other, byte by byte and with what stands between them. Assumes nothing.
 use mathlib.Core.Path.{◌≡◌, refl, sym, ◌∙◌, ap}
 use mathlib.Core.List.{List, [], ◌∷◌, ◌++◌, append_assoc}
-use Prim.Native.Nat.{ℕ, ◌+◌, ◌≤◌, ◌<◌}
-use native.Mathlib.Omega.{arith}
-use native.Mathlib.Nat.{add-zero}
-use native.Mathlib.Numerals.{add-one}
-use lib.ListN.{length, drop, get_or, set, drop_of_length-le}
-use lib.Seq.{drop-cons}
+use Prim.Native.Nat.{ℕ, ◌+◌, ◌≤◌}
+use lib.ListN.{length}
+use lib.Seq.{drop-drop}
+use borrow.Rule.Slice.PartMut.{put_mid}
+use Rattle.list.specs.Memory.{blit}
 use Rattle.list.specs.Put.{Put}
-use Rattle.list.proofs.Put.{Due, due_all, due_is, due_same, due_room, due_none, due_fits, due_put, due_byte, due_byte_fits}
+use Rattle.list.proofs.Put.{Due, due_is, due_none, due_fits, due_put}
 use Rattle.lines.specs.Lines.{line}
 
 -- ---- the bytes of a word
 
--- the word stands up to its i-th byte
-abbrev pub Copying : List ℕ → ℕ → List ℕ → List ℕ → ℕ → Type 0
-Copying out₀ at word out i = Due out₀ at word (drop i word) (at + i) out
-
-pub copying : (out₀ : List ℕ) (at : ℕ) (word : List ℕ) → at + length word ≤ length out₀ → Copying out₀ at word out₀ 0
-copying out₀ at word h = rw (add-zero at) (due_all out₀ at word h)
-
-module _ (out₀ : List ℕ) (at : ℕ) (word out : List ℕ) (i : ℕ) (d : Copying out₀ at word out i) where
-  pub copy_same : length out ≡ length out₀
-  copy_same = due_same out₀ at word (drop i word) (at + i) out d
-
-  pub copy_within : at + i ≤ length out₀
-  copy_within = omega (arith, due_room out₀ at word (drop i word) (at + i) out d, copy_same)
-
-  pub copied : length word ≤ i → Put out₀ at word (at + i) out
-  copied h = due_none out₀ at word (drop i word) (at + i) out d (drop_of_length-le word h)
-
-  module _ (h : i < length word) where
-    here : Due out₀ at word (get_or word i 0 ∷ drop (i + 1) word) (at + i) out
-    here = due_is out₀ at word (drop i word) (get_or word i 0 ∷ drop (i + 1) word) (at + i) out (rw (add-one i) (drop-cons word i 0 h)) d
-
-    pub copy_fits : at + i < length out
-    copy_fits = due_byte_fits out₀ at word (get_or word i 0) (drop (i + 1) word) (at + i) out here
-
-    pub copies : Copying out₀ at word (set out (at + i) (get_or word i 0)) (i + 1)
-    copies =
-        let e : at + i + 1 ≡ at + (i + 1) = omega arith in
-        rw e at (due_byte out₀ at word (get_or word i 0) (drop (i + 1) word) (at + i) out here)
+-- ys is what the part of n bytes from the place on holds then
+pub copied : (out : List ℕ) (at : ℕ) (word : List ℕ) (n : ℕ) (ys : List ℕ) → n ≡ length word → ys ≡ word
+    → Put out at word (at + length word) (put_mid at n out ys)
+unfolding blit
+copied out at word n ys e q = record { past = refl; wrote = rw (q, drop-drop n at out, e) }
 
 -- ---- the words of a line
 

@@ -1,5 +1,5 @@
 -- docs/RULES.md, dumpmap: the lines that are printed, as bytes. Assumes nothing.
-use Rattle.std.specs.Prelude.{List, [], ◌∷◌, ◌++◌, ℕ, eqb}
+use Rattle.std.specs.Prelude.{List, [], ◌∷◌, ◌++◌, ℕ, Result, Ok, Err, ⊤}
 use Rattle.list.specs.Pick.{pick}
 use Rattle.code.specs.Code.{code_of, number_of}
 use Rattle.code.specs.declared.Code.{Code}
@@ -33,10 +33,10 @@ unfoldable pub count_line : ℕ → List ℕ
 count_line n = line ((116 ∷ 111 ∷ 107 ∷ 101 ∷ 110 ∷ 115 ∷ []) ∷ figures_of n ∷ [])
 
 -- `end` and the code 0; of a refusal the code, its number, `at` and the offset
-unfoldable pub end_line : Code → ℕ → List ℕ
-end_line code offset =
-    pick (eqb (code_of code) 0) (line ((101 ∷ 110 ∷ 100 ∷ []) ∷ figures_of 0 ∷ []))
-    (line ((101 ∷ 110 ∷ 100 ∷ []) ∷ figures_of (code_of code) ∷ figures_of (number_of code) ∷ (97 ∷ 116 ∷ []) ∷ figures_of offset ∷ []))
+unfoldable pub end_line : Result ⊤ Code → ℕ → List ℕ
+end_line (Ok t) offset = line ((101 ∷ 110 ∷ 100 ∷ []) ∷ figures_of 0 ∷ [])
+end_line (Err code) offset =
+    line ((101 ∷ 110 ∷ 100 ∷ []) ∷ figures_of (code_of code) ∷ figures_of (number_of code) ∷ (97 ∷ 116 ∷ []) ∷ figures_of offset ∷ [])
 
 -- `input`: the one line of an input that is not taken
 abbrev pub input_line : List ℕ

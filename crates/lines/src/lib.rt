@@ -8,7 +8,7 @@ ghost use Rattle.decimal.specs.Decimal.{figures_of};
 ghost use Rattle.lines.specs.Lines.{id_text, token_line, token_lines, count_line, end_line, input_line};
 ghost use Rattle.lines.specs.Parts.{spaced, PutMost};
 
-use code::Code;
+use code::{Answer, Code};
 use token::Token;
 
 // The most bytes of the first line, which has a number of 64 bits.
@@ -25,12 +25,9 @@ fn put_word(out: &mut [u8], at: usize, word: &[u8]) -> usize
     requires { at + length word.now ≤ length out.old }
     ensures { Put out.old at word.now result out.new }
 {
-    let mut i: usize = 0;
-    while i < word.len() {
-        out[at + i] = word[i];
-        i += 1;
-    }
-    at + i
+    let end = at + word.len();
+    out[at..end].copy_from_slice(word);
+    end
 }
 
 // A number, and the byte after it.
@@ -82,11 +79,9 @@ pub fn put_tokens(table: &[u32], n: usize, out: &mut [u8], at: usize) -> usize
     requires n_in_bounds { at + 66 * n ≤ length out.old }
     ensures { PutMost (66 * n) out.old at (token_lines (tokens_from table.now 0 n)) result out.new }
 {
-    let mut i: usize = 0;
     let mut next = at;
-    while i < n {
+    for i in 0..n {
         next = put_token(out, next, token::token_at(table, i));
-        i += 1;
     }
     next
 }
@@ -100,19 +95,18 @@ pub fn put_count(out: &mut [u8], at: usize, n: usize) -> usize
     put_number(out, i, n as u64, b'\n')
 }
 
-// The last line: the code, and of a refusal its number, 0 too, and where it stands.
-pub fn put_end(out: &mut [u8], at: usize, code: Code, offset: usize) -> usize
+// The last line: 0 where the text was read to its end; of a refusal the code, its number, 0 too, and where it stands.
+pub fn put_end(out: &mut [u8], at: usize, end: Result<(), Code>, offset: usize) -> usize
     requires { at + 70 ≤ length out.old }
-    ensures { PutMost 70 out.old at (end_line code offset) result out.new }
+    ensures { PutMost 70 out.old at (end_line end offset) result out.new }
 {
-    let no = code::code_of(code);
-    let number = code::number_of(code);
     let after_end = put_word(out, at, b"end ");
-    if no == 0 {
-        return put_number(out, after_end, no, b'\n');
-    }
-    let after_no = put_number(out, after_end, no, b' ');
-    let after_number = put_number(out, after_no, number, b' ');
+    let Err(code) = end else {
+        return put_number(out, after_end, 0, b'\n');
+    };
+    let refusal = Answer::from(code);
+    let after_no = put_number(out, after_end, refusal.code, b' ');
+    let after_number = put_number(out, after_no, refusal.number, b' ');
     let after_at = put_word(out, after_number, b"at ");
     put_number(out, after_at, offset as u64, b'\n')
 }

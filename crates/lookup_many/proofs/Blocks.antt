@@ -3,7 +3,7 @@ use mathlib.Core.Path.{◌≡◌, sym, ◌∙◌, ap, subst}
 use mathlib.Core.Bool.{true}
 use mathlib.Core.Logic.{◌⊎◌, inl, inr}
 use mathlib.Core.List.{List}
-use mathlib.Core.Option.{some}
+use Rattle.std.specs.Prelude.{Option, Some, None}
 use Prim.Native.Nat.{ℕ, ◌+◌, ◌<◌, ◌≤◌}
 use native.Mathlib.Omega.{arith}
 use native.Mathlib.Nat.{eq-or-lt_of_le}
@@ -14,9 +14,8 @@ use Rattle.token.specs.Table.{places, token_at}
 use Rattle.token.proofs.Whole.{few}
 use Rattle.order.specs.Keys.{key_of, key_at}
 use Rattle.lookup.specs.Lookup.{NotAfter, fits, best_of}
-use Rattle.lookup.specs.Parts.{Between, index_of}
+use Rattle.lookup.specs.Parts.{Between}
 use Rattle.lookup.proofs.Best.{Among, among}
-use Rattle.lookup.proofs.Scan.{some_index, none_index, index_small}
 use Rattle.lookup.proofs.Part.{fits_says, passed, first_found, later_found, earlier_kept}
 use Rattle.lookup_many.specs.Blocks.{Spans}
 use Rattle.lookup_many.specs.declared.Block.{Block}
@@ -102,15 +101,15 @@ module _ (table : List ℕ) (from to : ℕ) where
           }
 
 -- ---- what a position takes from it; found is what was found before
-module _ (table : List ℕ) (line col from to : ℕ) (b : Block) (part : Between table from to) (s : Spans table from to b) (found : ℕ)
-    (ef : found ≡ index_of (best_of table line col from)) where
+module _ (table : List ℕ) (line col from to : ℕ) (b : Block) (part : Between table from to) (s : Spans table from to b) (found : Option ℕ)
+    (ef : found ≡ best_of table line col from) where
   -- where a token that fits stands
   stands : (j : ℕ) → fits table line col j ≡ true → (key_of line 0 ≤ key_at table j) × (key_at table j ≤ key_of line col)
   stands j f = let q = fits_says table line col j f in (omega (arith, q.0, q.1), omega (arith, q.0, q.1))
 
-  pub all_after : key_of line col < b.least → found ≡ index_of (best_of table line col to)
+  pub all_after : key_of line col < b.least → found ≡ best_of table line col to
   all_after h =
-      ef ∙ ap index_of (sym (passed table line col from to part.rises (λ j l g f. (let z = stands j f in let y = s.lowest j l g in omega (arith, z.1)))))
+      ef ∙ sym (passed table line col from to part.rises (λ j l g f. (let z = stands j f in let y = s.lowest j l g in omega (arith, z.1))))
 
   at_most : (j : ℕ) → from ≤ j → j < to → key_at table j ≤ b.most
   at_most j l g = go (s.highest j l g)
@@ -119,9 +118,9 @@ module _ (table : List ℕ) (line col from to : ℕ) (b : Block) (part : Between
       go (inl a) = omega arith
       go (inr a) = omega (arith, a.0)
 
-  pub all_before : b.most < key_of line 0 → found ≡ index_of (best_of table line col to)
+  pub all_before : b.most < key_of line 0 → found ≡ best_of table line col to
   all_before h =
-      ef ∙ ap index_of (sym (passed table line col from to part.rises (λ j l g f. (let z = stands j f in let y = at_most j l g in omega (arith, z.0)))))
+      ef ∙ sym (passed table line col from to part.rises (λ j l g f. (let z = stands j f in let y = at_most j l g in omega (arith, z.0))))
 
   -- the block's greatest position is on the asked line, and not past the asked column
   module _ (on : key_of line 0 ≤ b.most) (up : b.most ≤ key_of line col) (small : col < 4294967296) (cols : (j : ℕ) → (token_at table j).dst_col < 4294967296) where
@@ -141,28 +140,20 @@ module _ (table : List ℕ) (line col from to : ℕ) (b : Block) (part : Between
     last_best : (j : ℕ) → from ≤ j → j < to → fits table line col j ≡ true → NotAfter table j b.last
     last_best j l g f = by_column j (fits_says table line col j f).0 (s.highest j l g)
 
-    pub found_first : found ≡ 4294967295 → b.last ≡ index_of (best_of table line col to)
-    found_first e =
-        sym
-        (ap index_of
-        (first_found table line col from to part.rises b.last s.begins s.ends last_fits last_best
-        (none_index (best_of table line col from) (index_small table line col from to part) (sym ef ∙ e))))
+    pub found_first : found ≡ None → Some b.last ≡ best_of table line col to
+    found_first e = sym (first_found table line col from to part.rises b.last s.begins s.ends last_fits last_best (sym ef ∙ e))
 
-    module _ (ne : found ≡ 4294967295 → ⊥) where
-      was : best_of table line col from ≡ some found
-      was = some_index (best_of table line col from) found ef ne
+    module _ (i : ℕ) (is : found ≡ Some i) where
+      was : best_of table line col from ≡ Some i
+      was = sym ef ∙ is
 
-      on_line : (token_at table found).dst_line ≡ line
-      on_line = (fits_says table line col found (subst (Among table line col from) was (among table line col from)).1.0).0
+      on_line : (token_at table i).dst_line ≡ line
+      on_line = (fits_says table line col i (subst (Among table line col from) was (among table line col from)).1.0).0
 
-      pub keeps_earlier : b.most < key_at table found → found ≡ index_of (best_of table line col to)
+      pub keeps_earlier : b.most < key_at table i → found ≡ best_of table line col to
       keeps_earlier h =
-          sym
-          (ap index_of
-          (earlier_kept table line col from to part.rises b.last s.begins s.ends last_fits last_best found was (omega (arith, s.at, last_line, on_line))))
+          is ∙ sym (earlier_kept table line col from to part.rises b.last s.begins s.ends last_fits last_best i was (omega (arith, s.at, last_line, on_line)))
 
-      pub takes_later : key_at table found ≤ b.most → b.last ≡ index_of (best_of table line col to)
+      pub takes_later : key_at table i ≤ b.most → Some b.last ≡ best_of table line col to
       takes_later h =
-          sym
-          (ap index_of
-          (later_found table line col from to part.rises b.last s.begins s.ends last_fits last_best found was (omega (arith, s.at, last_line, on_line))))
+          sym (later_found table line col from to part.rises b.last s.begins s.ends last_fits last_best i was (omega (arith, s.at, last_line, on_line)))

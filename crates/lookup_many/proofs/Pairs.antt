@@ -1,17 +1,21 @@
 -- The list of what is found: place after place, then one list after another. Assumes nothing.
-use mathlib.Core.Path.{◌≡◌, refl, sym, ◌∙◌, subst}
+use mathlib.Core.Path.{◌≡◌, refl, sym, ◌∙◌, ap, subst}
 use mathlib.Core.Bool.{false}
-use mathlib.Core.List.{List}
+use mathlib.Core.List.{List, ◌++◌}
 use Prim.Native.Nat.{ℕ, ◌+◌, ◌<◌, ◌≤◌}
 use native.Mathlib.Omega.{arith}
-use lib.ListN.{length, drop, get_or, set, length-set}
+use lib.ListN.{length, take, drop, get_or, set, replicate, length-set}
 use lib.Seq.{get_or-set_same, get_or-set_other, drop-set-lt}
 use borrow.Author.Count.{below_more}
+use borrow.Author.Tests.{ne_eqb}
+use Rattle.std.proofs.lemmas.List.{get_or-replicate, length-replicate, length-take-le, get_or_append_left, length-append, length-drop}
+use Rattle.std.proofs.lemmas.Slice.{drop-append-drop}
+use Rattle.std.specs.Prelude.{Option, Some, None}
 use Rattle.token.specs.Table.{places, bad_table}
 use Rattle.lookup.specs.Lookup.{best_of}
-use Rattle.lookup.specs.Parts.{Between, index_of}
+use Rattle.lookup.specs.Parts.{Between}
 use Rattle.lookup_many.specs.Many.{line_of, col_of}
-use Rattle.lookup_many.specs.Places.{Filled}
+use Rattle.lookup_many.specs.Places.{found_in, place_of, Filled}
 
 -- of the first count places, k hold what is new, and the others what is old
 pub record Partly (New Old : ℕ → ℕ → Type 0) (count k : ℕ) (before found : List ℕ) : Type 0 where
@@ -51,9 +55,29 @@ module _ (New Old : ℕ → ℕ → Type 0) (count : ℕ) (before : List ℕ) wh
     pub filled : count ≤ k → Filled New count before found
     filled h = record { each = λ j l. p.done j (omega arith); kept = p.kept; sized = p.sized }
 
+-- v is put in every place of the first count
+pub put_in_all : (P : ℕ → ℕ → Type 0) (count v : ℕ) (found new : List ℕ) → count ≤ length found → new ≡ replicate (length (take count found)) v
+    → ((k : ℕ) → k < count → P k v) → Filled P count found (new ++ drop count found)
+put_in_all P count v found new h e p =
+    let l : length (take count found) ≡ count = length-take-le count found h in
+    let n : length new ≡ count = ap length e ∙ length-replicate (length (take count found)) v ∙ l in
+    record {
+      each = λ k g.
+          subst (P k)
+          (sym (get_or_append_left new (drop count found) 0 k (omega arith) ∙ ap (λ (xs : List ℕ). get_or xs k 0) e ∙ get_or-replicate (length (take count found)) k v 0 (omega arith)))
+          (p k g);
+      kept = drop-append-drop count found new count (omega arith) n;
+      sized = length-append new (drop count found) ∙ (let q = length-drop count found in omega arith);
+    }
+
+-- what is found stands in its place
+pub placed : (o : Option ℕ) → ((j : ℕ) → o ≡ Some j → j < 4294967295) → found_in (place_of o) ≡ o
+placed None small = refl
+placed (Some i) small = let h = small i refl in rw (ne_eqb i 4294967295 (λ e. omega arith))
+
 -- what each pair has found before the i-th token
 abbrev pub Finds : List ℕ → List ℕ → ℕ → ℕ → ℕ → Type 0
-Finds table positions i k n = n ≡ index_of (best_of table (line_of positions k) (col_of positions k) i)
+Finds table positions i k n = n ≡ place_of (best_of table (line_of positions k) (col_of positions k) i)
 
 -- one list after another
 module _ (P Q : ℕ → ℕ → Type 0) (count : ℕ) (a b c : List ℕ) where

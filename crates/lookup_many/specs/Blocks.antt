@@ -3,10 +3,9 @@
 use Rattle.std.specs.Prelude.{◌≡◌, ◌⊎◌, List, ℕ, ◌≤◌, ◌<◌, length}
 use Rattle.order.specs.Keys.{key_at}
 use Rattle.lookup.specs.Lookup.{best_of}
-use Rattle.lookup.specs.Parts.{index_of}
 use Rattle.lookup_many.specs.declared.Block.{Block}
 use Rattle.lookup_many.specs.Many.{pairs, line_of, col_of}
-use Rattle.lookup_many.specs.Places.{Filled}
+use Rattle.lookup_many.specs.Places.{place_of, Filled}
 
 -- of the tokens from `from` up to `to`: none stands before the least; the last stands at the most, and none comes after it
 pub record Spans (table : List ℕ) (from to : ℕ) (b : Block) : Type 0 where
@@ -19,4 +18,4 @@ pub record Spans (table : List ℕ) (from to : ℕ) (b : Block) : Type 0 where
 -- of each pair, the best token before i
 abbrev pub Held : List ℕ → List ℕ → ℕ → List ℕ → List ℕ → Type 0
 Held table positions i before found =
-    Filled (λ k n. n ≡ index_of (best_of table (line_of positions k) (col_of positions k) i)) (pairs (length positions)) before found
+    Filled (λ k n. n ≡ place_of (best_of table (line_of positions k) (col_of positions k) i)) (pairs (length positions)) before found

@@ -1,11 +1,9 @@
 -- docs/RULES.md, Looking up many positions: the answer, its refusals in order, and what the lent list holds then. Assumes nothing.
-use Rattle.std.specs.Prelude.{◌≡◌, Bool, ◌⊎◌, List, ℕ, ◌+◌, ◌*◌, ◌/◌, ◌%◌, ◌<◌, eqb, ltb, length, drop, get_or}
+use Rattle.std.specs.Prelude.{◌≡◌, Bool, ◌⊎◌, List, ℕ, ◌+◌, ◌*◌, ◌/◌, ◌%◌, ◌<◌, eqb, ltb, length, drop, get_or, Option, Result, Ok, Err, ⊤}
 use Rattle.list.specs.Pick.{pick}
-use Rattle.code.specs.Code.{code_of}
 use Rattle.code.specs.declared.Code.{Code}
 use Rattle.token.specs.Table.{bad_table}
-use Rattle.lookup.specs.Lookup.{Fits, Best, Looks, found_number}
-use Rattle.lookup.specs.declared.Found.{Found}
+use Rattle.lookup.specs.Lookup.{Fits, Best, Looks, found_out}
 
 -- a position is a pair of numbers, line and column
 abbrev pub pairs : ℕ → ℕ
@@ -22,24 +20,25 @@ abbrev pub col_of : List ℕ → ℕ → ℕ
 col_of positions k = get_or positions (2 * k + 1) 0
 
 -- BadTable, OddList, NoRoom with the number of pairs, in this order; else done
-unfoldable pub many_to : List ℕ → List ℕ → ℕ → Code
+unfoldable pub many_to : List ℕ → List ℕ → ℕ → Result ⊤ Code
 many_to table positions room =
-    pick (bad_table (length table)) Code.BadTable
-    (pick (odd_list (length positions)) Code.OddList
-    (pick (ltb room (pairs (length positions))) (Code.NoRoom (pairs (length positions))) Code.Done))
+    pick (bad_table (length table)) (Err Code.BadTable)
+    (pick (odd_list (length positions)) (Err Code.OddList)
+    (pick (ltb room (pairs (length positions))) (Err (Code.NoRoom (pairs (length positions)))) (Ok tt)))
 
 -- n is what one lookup of the position says: the index, or 4,294,967,295 where there is no such token
 pub record Says (table : List ℕ) (line col n : ℕ) : Type 0 where
-  pub found : Found
+  pub found : Result (Option ℕ) Code
   pub looks : Looks table line col found
-  pub says : n ≡ found_number found
+  pub says : n ≡ (found_out found).number
 
 -- how many places are written: one for each pair, none on a refusal
-abbrev pub filled : Code → List ℕ → ℕ
-filled code positions = pick (eqb (code_of code) 0) (pairs (length positions)) 0
+abbrev pub filled : Result ⊤ Code → List ℕ → ℕ
+filled (Ok t) positions = pairs (length positions)
+filled (Err c) positions = 0
 
 -- a call's answer, and what the lent list holds then: for each pair what one lookup says; past the pairs, and on a refusal, what it held
-pub record LooksMany (table positions found : List ℕ) (r : Code) (found' : List ℕ) : Type 0 where
+pub record LooksMany (table positions found : List ℕ) (r : Result ⊤ Code) (found' : List ℕ) : Type 0 where
   pub says : r ≡ many_to table positions (length found)
   pub each : (k : ℕ) → k < filled r positions → Says table (line_of positions k) (col_of positions k) (get_or found' k 0)
   pub kept : drop (filled r positions) found' ≡ drop (filled r positions) found

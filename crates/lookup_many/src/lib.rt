@@ -1,13 +1,13 @@
 // Finds the tokens at many generated positions, with the table read once.
 #![tactic(auto)]
 
-ghost use Rattle.std.specs.Prelude.{◌≡◌, false, ◌<◌, ◌≤◌, length};
+ghost use Rattle.std.specs.Prelude.{◌≡◌, ℕ, false, ◌<◌, ◌≤◌, length, get_or};
 ghost use Rattle.token.specs.Table.{places, bad_table};
 ghost use Rattle.lookup.specs.Lookup.{best_of};
-ghost use Rattle.lookup.specs.Parts.{Between, index_of};
+ghost use Rattle.lookup.specs.Parts.{Between};
 ghost use Rattle.lookup_many.specs.Many.{pairs, many_to, LooksMany};
 ghost use Rattle.lookup_many.specs.Blocks.{Spans, Held};
-ghost use Rattle.lookup_many.specs.Places.{pair_at};
+ghost use Rattle.lookup_many.specs.Places.{pair_at, found_in, place_of, Filled};
 
 use code::Code;
 use token::NONE;
@@ -50,8 +50,7 @@ fn block_of(table: &[u32], from: usize, to: usize) -> Block
     let mut least = first;
     let mut most = first;
     let mut last = from;
-    let mut i = from + 1;
-    while i < to {
+    for i in from + 1..to {
         let p = order::key_at(table, i);
         if p < least {
             least = p;
@@ -60,14 +59,9 @@ fn block_of(table: &[u32], from: usize, to: usize) -> Block
             most = p;
             last = i;
         }
-        i += 1;
     }
-    let latest = last as u32;
-    Block {
-        least,
-        most,
-        last: latest,
-    }
+    let last = last as u32;
+    Block { least, most, last }
 }
 
 // The best token before `to` for a position, where `found` is the best before `from`. Only a block that the position lies within is
@@ -77,31 +71,56 @@ fn past_block(
     from: usize,
     to: usize,
     b: Block,
-    line: u32,
-    col: u32,
-    found: u32,
-) -> u32
-    requires { Between table.now from to × (Spans table.now from to b × (found ≡ index_of (best_of table.now line col from))) }
-    ensures { result ≡ index_of (best_of table.now line col to) }
+    p: Pair,
+    found: Option<u32>,
+) -> Option<u32>
+    requires { Between table.now from to × (Spans table.now from to b × (found ≡ best_of table.now p.line p.col from)) }
+    ensures { result ≡ best_of table.now p.line p.col to }
 {
-    let asked = order::key_of(line, col);
+    let asked = order::key_of(p.line, p.col);
     if asked < b.least {
         return found;
     }
-    if b.most < order::key_of(line, 0) {
+    if b.most < order::key_of(p.line, 0) {
         return found;
     }
     if asked < b.most {
-        return lookup::best_in(table, from, to, line, col, found);
+        return lookup::best_in(table, from, to, p.line, p.col, found);
     }
-    let last = b.last;
-    if found == NONE {
-        return last;
+    if let Some(i) = found {
+        if b.most < order::key_at(table, i as usize) {
+            return found;
+        }
     }
-    if b.most < order::key_at(table, found as usize) {
-        return found;
+    Some(b.last)
+}
+
+// What a place of the lent list holds, as what is found. The list is lent by C: it holds NONE where there is no token.
+fn found_in(place: u32) -> Option<u32>
+    ensures { result ≡ found_in place }
+{
+    if place == NONE {
+        return None;
     }
-    last
+    Some(place)
+}
+
+// What is found, as its place holds it.
+pub fn place_of(found: Option<u32>) -> u32
+    ensures { result ≡ place_of found }
+{
+    found.unwrap_or(NONE)
+}
+
+// The place of each pair holds what `f` makes of the pair and of what the place held.
+pub fn each_place<F: Fn(Pair, u32) -> u32>(positions: &[u32], found: &mut [u32], f: F)
+    requires fits { pairs (length positions.now) ≤ length found.old }
+    requires can { (k : ℕ) → k < pairs (length positions.now) → F.pre f (pair_at positions.now k) (get_or found.old k 0) }
+    ensures { Filled (λ k n. F.post f (pair_at positions.now k) (get_or found.old k 0) n) (pairs (length positions.now)) found.old found.new }
+{
+    for k in 0..positions.len() / 2 {
+        found[k] = f(pair_at(positions, k), found[k]);
+    }
 }
 
 // One block, for every pair.
@@ -110,14 +129,14 @@ fn look_block(table: &[u32], from: usize, to: usize, positions: &[u32], found: &
     ensures { Held table.now positions.now to found.old found.new }
 {
     let b = block_of(table, from, to);
-    let count = positions.len() / 2;
-    let mut k: usize = 0;
-    while k < count {
-        let p = pair_at(positions, k);
-        let was = found[k];
-        found[k] = past_block(table, from, to, b, p.line, p.col, was);
-        k += 1;
-    }
+    each_place(
+        positions,
+        found,
+        |p: Pair, place: u32| -> u32
+            requires { Between table.now from to × (Spans table.now from to b × (found_in place ≡ best_of table.now p.line p.col from)) }
+            ensures { result ≡ place_of (best_of table.entry.now p.line p.col to) }
+        { place_of(past_block(table, from, to, b, p, found_in(place))) },
+    );
 }
 
 // Before the first token there is none.
@@ -125,30 +144,24 @@ fn none_yet(table: &[u32], positions: &[u32], found: &mut [u32])
     requires { pairs (length positions.now) ≤ length found.old }
     ensures { Held table.now positions.now 0 found.old found.new }
 {
-    let places = positions.len() / 2;
-    let mut k: usize = 0;
-    while k < places {
-        found[k] = NONE;
-        k += 1;
-    }
+    found[..positions.len() / 2].fill(NONE);
 }
 
 // What the call answers, by the lengths alone.
-pub fn code_for(table: &[u32], positions: &[u32], room: usize) -> Code
+pub fn code_for(table: &[u32], positions: &[u32], room: usize) -> Result<(), Code>
     ensures { result ≡ many_to table.now positions.now room }
 {
     if token::bad_table(table.len()) {
-        return Code::BadTable;
+        return Err(Code::BadTable);
     }
     if positions.len() % 2 == 1 {
-        return Code::OddList;
+        return Err(Code::OddList);
     }
     let asked = positions.len() / 2;
     if room < asked {
-        let needed = asked as u64;
-        return Code::NoRoom(needed);
+        return Err(Code::NoRoom(asked as u64));
     }
-    Code::Done
+    Ok(())
 }
 
 // All blocks, one after another.
@@ -158,25 +171,19 @@ pub fn look_all(table: &[u32], positions: &[u32], found: &mut [u32])
 {
     none_yet(table, positions, found);
     let places = token::places_in(table.len());
-    let mut i: usize = 0;
+    let mut i = 0;
     while i < places {
-        let mut to = places;
-        if BLOCK < places - i {
-            to = i + BLOCK;
-        }
+        let to = places.min(i + BLOCK);
         look_block(table, i, to, positions, found);
         i = to;
     }
 }
 
 // For each pair of line and column the index of its token, 4,294,967,295 where there is none: what one lookup after another says.
-pub fn lookup_many(table: &[u32], positions: &[u32], found: &mut [u32]) -> Code
+pub fn lookup_many(table: &[u32], positions: &[u32], found: &mut [u32]) -> Result<(), Code>
     ensures { LooksMany table.now positions.now found.old result found.new }
 {
-    let answer = code_for(table, positions, found.len());
-    if code::code_of(answer) != 0 {
-        return answer;
-    }
+    code_for(table, positions, found.len())?;
     look_all(table, positions, found);
-    answer
+    Ok(())
 }

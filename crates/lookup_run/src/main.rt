@@ -24,10 +24,8 @@ fn put(table: &mut [u32], i: usize, line: u32, col: u32) {
 }
 
 fn ask(rt: &impl Print, table: &[u32], line: u32, col: u32) -> io::Result<()> {
-    let found = lookup::lookup_token(table, line, col);
-    let code = lookup::found_code(found);
-    let number = lookup::found_number(found);
-    println!(rt; "{code} {number}")
+    let a = lookup::found_out(lookup::lookup_token(table, line, col));
+    println!(rt; "{} {}", a.code, a.number)
 }
 
 // Before, at, between and past the tokens of a line; equal columns; a line with none.

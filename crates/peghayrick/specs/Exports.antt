@@ -1,14 +1,11 @@
 -- What the exported entries answer: the answers of the entries behind them, a code as its number and the number with it. Assumes nothing.
-use Rattle.std.specs.Prelude.{◌≡◌, Bool, true, false, ℕ}
-use Rattle.code.specs.Code.{code_of, number_of}
+use Rattle.std.specs.Prelude.{◌≡◌, Bool, true, false, ℕ, Option, Some, None, Result, Ok, Err}
+use Rattle.code.specs.Code.{code_of, number_of, answer_of}
+use Rattle.code.specs.declared.Code.{Code}
+use Rattle.token.specs.declared.TokenChunk.{TokenChunk}
 use Rattle.decode.specs.declared.Decoded.{Decoded}
 use Rattle.encode.specs.declared.Encoded.{Encoded}
-use Rattle.records.specs.declared.Answer.{Answer}
-use Rattle.lookup.specs.Lookup.{found_code, found_number}
-use Rattle.lookup.specs.declared.Found.{Found}
 use Rattle.names.specs.declared.NamePlace.{NamePlace}
-use Rattle.compare_tables.specs.declared.Compared.{Compared}
-use Rattle.compose.specs.declared.Composed.{Composed}
 use Rattle.peghayrick.specs.declared.ComparedOut.{ComparedOut}
 use Rattle.peghayrick.specs.declared.ComposedOut.{ComposedOut}
 use Rattle.peghayrick.specs.declared.NameOut.{NameOut}
@@ -21,7 +18,7 @@ pub record Goes {A B : Type 0} (P : A → Type 0) (form : A → B) (r : B) : Typ
   pub holds : P inner
   pub says : r ≡ form inner
 
--- 0.8.0: major, minor and patch, three figures each
+-- 0.9.0: major, minor and patch, three figures each
 abbrev pub version : ℕ
 version = 9000
 
@@ -31,20 +28,22 @@ flag true = 1
 flag false = 0
 
 abbrev pub decoded_out : Decoded → DecodedOut
-decoded_out d = record { code = code_of d.code; number = number_of d.code; tokens = d.tokens; offset = d.offset }
+decoded_out d = record { code = (answer_of d.end).code; number = (answer_of d.end).number; tokens = d.tokens; offset = d.offset }
 
-abbrev pub encoded_out : Encoded → EncodedOut
-encoded_out e = record { code = code_of e.code; number = number_of e.code; bytes = e.bytes; next = e.next }
+-- a refusal counts no bytes, and gives back the chunk that it was given
+abbrev pub encoded_out : TokenChunk → Result Encoded Code → EncodedOut
+encoded_out chunk (Ok e) = record { code = 0; number = 0; bytes = e.bytes; next = e.next }
+encoded_out chunk (Err c) = record { code = code_of c; number = number_of c; bytes = 0; next = chunk }
 
--- code 0 carries the index
-abbrev pub found_out : Found → Answer
-found_out f = record { code = found_code f; number = found_number f }
+abbrev pub compared_out : Result ℕ Code → ComparedOut
+compared_out (Ok entries) = record { code = 0; number = 0; entries = entries }
+compared_out (Err c) = record { code = code_of c; number = number_of c; entries = 0 }
 
-abbrev pub compared_out : Compared → ComparedOut
-compared_out d = record { code = code_of d.code; number = number_of d.code; entries = d.entries }
+abbrev pub composed_out : Result ℕ Code → ComposedOut
+composed_out (Ok added) = record { code = 0; number = 0; added = added }
+composed_out (Err c) = record { code = code_of c; number = number_of c; added = 0 }
 
-abbrev pub composed_out : Composed → ComposedOut
-composed_out m = record { code = code_of m.code; number = number_of m.code; added = m.added }
-
-abbrev pub name_out : NamePlace → NameOut
-name_out p = record { found = flag p.found; outer = flag p.outer; start = p.start; end = p.end }
+-- zeros for no name
+abbrev pub name_out : Option NamePlace → NameOut
+name_out (Some p) = record { found = 1; outer = flag p.outer; start = p.start; end = p.end }
+name_out None = record { found = 0; outer = 0; start = 0; end = 0 }

@@ -2,28 +2,27 @@
 #![tactic(auto)]
 
 ghost use Rattle.std.specs.Prelude.{◌≡◌};
+ghost use Rattle.code.specs.Code.{answer_of};
 ghost use Rattle.value.specs.declared.Mode.{Mode};
-ghost use Rattle.names.specs.Names.{name_list, place_of};
+ghost use Rattle.names.specs.Names.{name_list, list_of, place_of};
 ghost use Rattle.decode.specs.Mapping.{by_default, Decodes};
 ghost use Rattle.table_size.specs.Size.{table_size};
 ghost use Rattle.encode.specs.Encode.{Encodes};
 ghost use Rattle.premises.specs.Premises.{Decides};
 ghost use Rattle.checked_premises.specs.Checked.{DecidesChecked};
 ghost use Rattle.translate.specs.Translate.{Translates};
-ghost use Rattle.lookup.specs.Lookup.{Looks};
+ghost use Rattle.lookup.specs.Lookup.{Looks, found_out};
 ghost use Rattle.lookup_many.specs.Many.{LooksMany};
 ghost use Rattle.compare_tables.specs.Compare.{Compares};
 ghost use Rattle.compose.specs.Compose.{maps_of, Composes, ComposesWith};
-ghost use Rattle.records.specs.Records.{TranslatesRecords, answer_of};
-ghost use Rattle.peghayrick.specs.Exports.{Goes, version, flag, decoded_out, encoded_out, found_out, compared_out, composed_out, name_out};
+ghost use Rattle.records.specs.Records.{TranslatesRecords};
+ghost use Rattle.peghayrick.specs.Exports.{Goes, version, flag, decoded_out, encoded_out, compared_out, composed_out, name_out};
 
-use code::Code;
-use compare_tables::Compared;
-use compose::Composed;
+use code::{Answer, Code};
+use compose::Map;
 use decode::Decoded;
 use encode::Encoded;
-use names::NamePlace;
-use records::Answer;
+use names::{Joined, NamePlace, Names};
 use token::{Token, TokenChunk};
 
 // A decode's code and number, how many tokens it wrote, and the offset.
@@ -74,77 +73,104 @@ pub struct NameOut {
     pub end: usize,
 }
 
-fn decoded_out(d: Decoded) -> DecodedOut
-    ensures { result ≡ decoded_out d }
-{
-    let c = d.code;
-    DecodedOut {
-        code: code::code_of(c),
-        number: code::number_of(c),
-        tokens: d.tokens,
-        offset: d.offset,
+impl From<Decoded> for DecodedOut {
+    ghost from_gives = { λ d out. out ≡ decoded_out d };
+
+    fn from(d: Decoded) -> DecodedOut {
+        let answer = code::answer_of(d.end);
+        DecodedOut {
+            code: answer.code,
+            number: answer.number,
+            tokens: d.tokens,
+            offset: d.offset,
+        }
     }
 }
 
-fn encoded_out(e: Encoded) -> EncodedOut
-    ensures { result ≡ encoded_out e }
+// A refusal counts no bytes, and gives back the chunk that it was given.
+fn encoded_out(chunk: TokenChunk, r: Result<Encoded, Code>) -> EncodedOut
+    ensures { result ≡ encoded_out chunk r }
 {
-    let c = e.code;
-    let next = e.next;
-    EncodedOut {
-        code: code::code_of(c),
-        number: code::number_of(c),
-        bytes: e.bytes,
-        next,
+    match r {
+        Ok(e) => EncodedOut {
+            code: 0,
+            number: 0,
+            bytes: e.bytes,
+            next: e.next,
+        },
+        Err(c) => EncodedOut {
+            code: code::code_of(c),
+            number: code::number_of(c),
+            bytes: 0,
+            next: chunk,
+        },
     }
 }
 
-fn compared_out(d: Compared) -> ComparedOut
-    ensures { result ≡ compared_out d }
-{
-    let c = d.code;
-    ComparedOut {
-        code: code::code_of(c),
-        number: code::number_of(c),
-        entries: d.entries,
+impl From<Result<usize, Code>> for ComparedOut {
+    ghost from_gives = { λ r out. out ≡ compared_out r };
+
+    fn from(r: Result<usize, Code>) -> ComparedOut {
+        match r {
+            Ok(entries) => ComparedOut {
+                code: 0,
+                number: 0,
+                entries,
+            },
+            Err(c) => ComparedOut {
+                code: code::code_of(c),
+                number: code::number_of(c),
+                entries: 0,
+            },
+        }
     }
 }
 
-fn composed_out(m: Composed) -> ComposedOut
-    ensures { result ≡ composed_out m }
-{
-    let c = m.code;
-    ComposedOut {
-        code: code::code_of(c),
-        number: code::number_of(c),
-        added: m.added,
+impl From<Result<usize, Code>> for ComposedOut {
+    ghost from_gives = { λ r out. out ≡ composed_out r };
+
+    fn from(r: Result<usize, Code>) -> ComposedOut {
+        match r {
+            Ok(added) => ComposedOut {
+                code: 0,
+                number: 0,
+                added,
+            },
+            Err(c) => ComposedOut {
+                code: code::code_of(c),
+                number: code::number_of(c),
+                added: 0,
+            },
+        }
     }
 }
 
-fn flag_of(yes: bool) -> u64
-    ensures { result ≡ flag yes }
-{
-    if yes { 1 } else { 0 }
-}
+impl From<Option<NamePlace>> for NameOut {
+    ghost from_gives = { λ p out. out ≡ name_out p };
 
-fn name_out(p: NamePlace) -> NameOut
-    ensures { result ≡ name_out p }
-{
-    NameOut {
-        found: flag_of(p.found),
-        outer: flag_of(p.outer),
-        start: p.start,
-        end: p.end,
+    fn from(p: Option<NamePlace>) -> NameOut {
+        match p {
+            Some(p) => NameOut {
+                found: 1,
+                outer: u64::from(p.outer),
+                start: p.start,
+                end: p.end,
+            },
+            None => NameOut {
+                found: 0,
+                outer: 0,
+                start: 0,
+                end: 0,
+            },
+        }
     }
 }
 
-fn answer_out(c: Code) -> Answer
-    ensures { result ≡ answer_of c }
+// The two slices of a list, as they come in.
+fn list<'a>(text: &'a [u8], ends: &'a [usize]) -> Names<'a>
+    ensures { list_of result ≡ name_list text.now ends.now }
 {
-    Answer {
-        code: code::code_of(c),
-        number: code::number_of(c),
-    }
+    Names { text, ends }
 }
 
 // What the header's PGK_VERSION must be.
@@ -165,39 +191,39 @@ pub fn pgk_table_size(text: &[u8]) -> usize
 pub fn pgk_meets_premises(table: &[u32], sources: u32, names: u32) -> u64
     ensures { Goes (Decides table.now sources names) flag result }
 {
-    flag_of(premises::meets_premises(table, sources, names))
+    u64::from(premises::meets_premises(table, sources, names))
 }
 
 // 1 where it surely reads back in checked mode too, else 0.
 pub fn pgk_meets_checked_premises(table: &[u32], sources: u32, names: u32) -> u64
     ensures { Goes (DecidesChecked table.now sources names) flag result }
 {
-    flag_of(checked_premises::meets_checked_premises(table, sources, names))
+    u64::from(checked_premises::meets_checked_premises(table, sources, names))
 }
 
 // The decode that names no mode: checked.
 pub fn pgk_decode(text: &[u8], sources: u32, names: u32, table: &mut [u32]) -> DecodedOut
     ensures { Goes (λ d. Decodes by_default sources names text.now table.old d table.new) decoded_out result }
 {
-    decoded_out(decode::decode_mapping(text, sources, names, table))
+    DecodedOut::from(decode::decode_mapping(text, sources, names, table))
 }
 
 pub fn pgk_decode_lenient(text: &[u8], sources: u32, names: u32, table: &mut [u32]) -> DecodedOut
     ensures { Goes (λ d. Decodes Mode.Lenient sources names text.now table.old d table.new) decoded_out result }
 {
-    decoded_out(decode::decode_lenient(text, sources, names, table))
+    DecodedOut::from(decode::decode_lenient(text, sources, names, table))
 }
 
 pub fn pgk_decode_checked(text: &[u8], sources: u32, names: u32, table: &mut [u32]) -> DecodedOut
     ensures { Goes (λ d. Decodes Mode.Checked sources names text.now table.old d table.new) decoded_out result }
 {
-    decoded_out(decode::decode_checked(text, sources, names, table))
+    DecodedOut::from(decode::decode_checked(text, sources, names, table))
 }
 
 pub fn pgk_encode(table: &[u32], chunk: TokenChunk, out: &mut [u8]) -> EncodedOut
-    ensures { Goes (λ e. Encodes table.now chunk out.old e out.new) encoded_out result }
+    ensures { Goes (λ e. Encodes table.now chunk out.old e out.new) (encoded_out chunk) result }
 {
-    encoded_out(encode::serialize_mappings(table, chunk, out))
+    encoded_out(chunk, encode::serialize_mappings(table, chunk, out))
 }
 
 pub fn pgk_translate(
@@ -208,7 +234,7 @@ pub fn pgk_translate(
 ) -> Answer
     ensures { Goes (λ c. Translates line_offset source_offset name_offset table.old c table.new) answer_of result }
 {
-    answer_out(translate::translate(table, line_offset, source_offset, name_offset))
+    code::answer_of(translate::translate(table, line_offset, source_offset, name_offset))
 }
 
 pub fn pgk_translate_tokens(
@@ -217,41 +243,37 @@ pub fn pgk_translate_tokens(
     source_offset: u32,
     name_offset: u32,
 ) -> Answer
-    ensures { TranslatesRecords line_offset source_offset name_offset ts.old result ts.new }
+    ensures { Goes (λ r. TranslatesRecords line_offset source_offset name_offset ts.old r ts.new) answer_of result }
 {
-    records::translate_tokens(ts, line_offset, source_offset, name_offset)
+    code::answer_of(records::translate_tokens(ts, line_offset, source_offset, name_offset))
 }
 
 // Code 0 carries the token's index, or 4,294,967,295 where there is none.
 pub fn pgk_lookup(table: &[u32], line: u32, col: u32) -> Answer
     ensures { Goes (Looks table.now line col) found_out result }
 {
-    let f = lookup::lookup_token(table, line, col);
-    Answer {
-        code: lookup::found_code(f),
-        number: lookup::found_number(f),
-    }
+    lookup::found_out(lookup::lookup_token(table, line, col))
 }
 
 // For each pair of line and column the token's index, or 4,294,967,295 where there is none.
 pub fn pgk_lookup_many(table: &[u32], positions: &[u32], found: &mut [u32]) -> Answer
     ensures { Goes (λ c. LooksMany table.now positions.now found.old c found.new) answer_of result }
 {
-    answer_out(lookup_many::lookup_many(table, positions, found))
+    code::answer_of(lookup_many::lookup_many(table, positions, found))
 }
 
 // The same answers: by halving where the table is sorted, else as before.
 pub fn pgk_lookup_many_quick(table: &[u32], positions: &[u32], found: &mut [u32]) -> Answer
     ensures { Goes (λ c. LooksMany table.now positions.now found.old c found.new) answer_of result }
 {
-    answer_out(lookup_quick::lookup_many_quick(table, positions, found))
+    code::answer_of(lookup_quick::lookup_many_quick(table, positions, found))
 }
 
 // Every difference between two tables that are sorted by line and column, three numbers each.
 pub fn pgk_compare(left: &[u32], right: &[u32], out: &mut [u32]) -> ComparedOut
     ensures { Goes (λ d. Compares left.now right.now out.old d out.new) compared_out result }
 {
-    compared_out(compare_tables::compare_tables(left, right, out))
+    ComparedOut::from(compare_tables::compare_tables(left, right, out))
 }
 
 pub fn pgk_compose(
@@ -267,17 +289,15 @@ pub fn pgk_compose(
 ) -> ComposedOut
     ensures { Goes (λ m. Composes (maps_of outer.now outer_sources outer_names.now outer_ends.now inner.now inner_names.now inner_ends.now) res.old added.old m res.new added.new) composed_out result }
 {
-    composed_out(compose::compose(
-        outer,
-        outer_sources,
-        outer_names,
-        outer_ends,
-        inner,
-        inner_names,
-        inner_ends,
-        res,
-        added,
-    ))
+    let outer = Map {
+        table: outer,
+        names: list(outer_names, outer_ends),
+    };
+    let inner = Map {
+        table: inner,
+        names: list(inner_names, inner_ends),
+    };
+    ComposedOut::from(compose::compose(outer, outer_sources, inner, res, added))
 }
 
 // The same with lent working memory.
@@ -295,14 +315,18 @@ pub fn pgk_compose_with(
 ) -> ComposedOut
     ensures { Goes (λ m. ComposesWith (maps_of outer.now outer_sources outer_names.now outer_ends.now inner.now inner_names.now inner_ends.now) res.old added.old work.old m res.new added.new work.new) composed_out result }
 {
-    composed_out(compose::compose_with(
+    let outer = Map {
+        table: outer,
+        names: list(outer_names, outer_ends),
+    };
+    let inner = Map {
+        table: inner,
+        names: list(inner_names, inner_ends),
+    };
+    ComposedOut::from(compose::compose_with(
         outer,
         outer_sources,
-        outer_names,
-        outer_ends,
         inner,
-        inner_names,
-        inner_ends,
         res,
         added,
         work,
@@ -319,5 +343,10 @@ pub fn pgk_name_of(
 ) -> NameOut
     ensures { result ≡ name_out (place_of (name_list inner_names.now inner_ends.now) (name_list outer_names.now outer_ends.now) added.now id) }
 {
-    name_out(names::name_place(inner_names, inner_ends, outer_names, outer_ends, added, id))
+    let names = Joined {
+        inner: list(inner_names, inner_ends),
+        outer: list(outer_names, outer_ends),
+        added,
+    };
+    NameOut::from(names.name_place(id))
 }

@@ -2,6 +2,7 @@
 #![tactic(auto)]
 
 ghost use Rattle.std.specs.Prelude.{◌≡◌};
+ghost use Rattle.code.specs.Code.{answer_of};
 ghost use Rattle.value.specs.declared.Mode.{Mode};
 ghost use Rattle.names.specs.Names.{name_list, place_of};
 ghost use Rattle.decode.specs.Mapping.{by_default, Decodes};
@@ -10,15 +11,15 @@ ghost use Rattle.encode.specs.Encode.{Encodes};
 ghost use Rattle.premises.specs.Premises.{Decides};
 ghost use Rattle.checked_premises.specs.Checked.{DecidesChecked};
 ghost use Rattle.translate.specs.Translate.{Translates};
-ghost use Rattle.lookup.specs.Lookup.{Looks};
+ghost use Rattle.lookup.specs.Lookup.{Looks, found_out};
 ghost use Rattle.lookup_many.specs.Many.{LooksMany};
 ghost use Rattle.compare_tables.specs.Compare.{Compares};
 ghost use Rattle.compose.specs.Compose.{maps_of, Composes, ComposesWith};
-ghost use Rattle.records.specs.Records.{TranslatesRecords, answer_of};
-ghost use Rattle.peghayrick.specs.Exports.{Goes, version, flag, decoded_out, encoded_out, found_out, compared_out, composed_out, name_out};
+ghost use Rattle.records.specs.Records.{TranslatesRecords};
+ghost use Rattle.peghayrick.specs.Exports.{Goes, version, flag, decoded_out, encoded_out, compared_out, composed_out, name_out};
 
 use peghayrick::{ComparedOut, ComposedOut, DecodedOut, EncodedOut, NameOut};
-use records::Answer;
+use code::Answer;
 use token::{Token, TokenChunk};
 
 // What the header's PGK_VERSION must be.
@@ -87,7 +88,7 @@ pub extern "C" fn pgk_decode_checked(
 
 #[unsafe(no_mangle)]
 pub extern "C" fn pgk_encode(table: &[u32], chunk: TokenChunk, out: &mut [u8]) -> EncodedOut
-    ensures { Goes (λ e. Encodes table.now chunk out.old e out.new) encoded_out result }
+    ensures { Goes (λ e. Encodes table.now chunk out.old e out.new) (encoded_out chunk) result }
 {
     peghayrick::pgk_encode(table, chunk, out)
 }
@@ -111,7 +112,7 @@ pub extern "C" fn pgk_translate_tokens(
     source_offset: u32,
     name_offset: u32,
 ) -> Answer
-    ensures { TranslatesRecords line_offset source_offset name_offset ts.old result ts.new }
+    ensures { Goes (λ r. TranslatesRecords line_offset source_offset name_offset ts.old r ts.new) answer_of result }
 {
     peghayrick::pgk_translate_tokens(ts, line_offset, source_offset, name_offset)
 }

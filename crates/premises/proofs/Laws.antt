@@ -11,6 +11,8 @@ use Rattle.list.specs.Pick.{pick}
 use Rattle.token.specs.Table.{no_id, is_none, places, bad_table, token_at, tokens_from}
 use Rattle.token.specs.declared.Token.{Token}
 use Rattle.token.proofs.Laws.{tokens_step, tokens_none}
+use Rattle.premises.specs.declared.Before.{Before}
+use Rattle.premises.specs.Before.{before_next}
 use Rattle.premises.specs.Premises.{id_within, follows, follow, decides, fits32, Decides}
 
 module _ (sources names line source_line source_col : ℕ) (t : Token) where
@@ -84,10 +86,11 @@ module _ (table : List ℕ) (sources names i line source_line source_col : ℕ) 
     unfolding follow
     stops q = sym (step ∙ rw (← er, not-true r q))
 
-    pub goes_on : not r ≡ false → (l c : ℕ) → l ≡ pick (is_none t.source_id) source_line t.src_line → c ≡ pick (is_none t.source_id) source_col t.src_col
-        → Passing table sources names (i + 1) t.dst_line l c
+    -- b is what the next is held to, as the code has it
+    pub goes_on : not r ≡ false → (b : Before) → b ≡ before_next (record { line = line; src_line = source_line; src_col = source_col }) t
+        → Passing table sources names (i + 1) b.line b.src_line b.src_col
     unfolding follow
-    goes_on q l c el ec = record { is = step ∙ rw (← er, not-false r q, ← el, ← ec) }
+    goes_on q b eb = record { is = step ∙ rw (← er, not-false r q, eb) }
 
 -- ---- every number of a lent table is one of 32 bits
 pub fits_all : (xs : List ℕ) → ((i : ℕ) → get_or xs i 0 < 2 ^ 32) → fits32 xs ≡ true

@@ -2,11 +2,38 @@
 #![tactic(auto)]
 
 ghost use Rattle.std.specs.Prelude.{◌≡◌};
-ghost use Rattle.list.specs.Pick.{pick};
-ghost use Rattle.token.specs.Table.{is_none};
+ghost use Rattle.premises.specs.Before.{before_next};
 ghost use Rattle.premises.specs.Premises.{id_within, follows, Decides};
 
 use token::Token;
+
+// What a token is held to: the line of the token before it, and the source position of the latest token with a source.
+#[derive(Clone, Copy, Default)]
+pub struct Before {
+    pub line: u32,
+    pub src_line: u32,
+    pub src_col: u32,
+}
+
+impl Before {
+    // What the token behind `t` is held to.
+    fn after(self, t: Token) -> Before
+        ensures { result ≡ before_next self t }
+    {
+        let moved = Before {
+            line: t.dst_line,
+            ..self
+        };
+        if t.source_id == token::NONE {
+            return moved;
+        }
+        Before {
+            src_line: t.src_line,
+            src_col: t.src_col,
+            ..moved
+        }
+    }
+}
 
 // An id is none or below its count.
 fn id_within(count: u32, id: u32) -> bool
@@ -18,18 +45,11 @@ fn id_within(count: u32, id: u32) -> bool
     id < count
 }
 
-// The token may stand after a token on `line`, where the latest token with a source had the source position src_line, src_col.
-pub fn follows_ok(
-    sources: u32,
-    names: u32,
-    line: u32,
-    src_line: u32,
-    src_col: u32,
-    t: Token,
-) -> bool
-    ensures { result ≡ follows sources names line src_line src_col t }
+// The token may stand there.
+pub fn follows_ok(sources: u32, names: u32, before: Before, t: Token) -> bool
+    ensures { result ≡ follows sources names before.line before.src_line before.src_col t }
 {
-    if t.dst_line < line {
+    if t.dst_line < before.line {
         return false;
     }
     if !id_within(sources, t.source_id) {
@@ -44,21 +64,10 @@ pub fn follows_ok(
     if t.name_id != token::NONE {
         return false;
     }
-    if t.src_line != src_line {
+    if t.src_line != before.src_line {
         return false;
     }
-    t.src_col == src_col
-}
-
-// A number of the latest source position after a token: the token's own where it has a source.
-fn latest(source_id: u32, before: u32, own: u32) -> u32
-    ensures { result ≡ pick (is_none source_id) before own }
-{
-    if source_id == token::NONE {
-        before
-    } else {
-        own
-    }
+    t.src_col == before.src_col
 }
 
 // Yes exactly for a table that meets them; what is then written surely reads back.
@@ -68,20 +77,13 @@ pub fn meets_premises(table: &[u32], sources: u32, names: u32) -> bool
     if token::bad_table(table.len()) {
         return false;
     }
-    let count = token::places_in(table.len());
-    let mut i: usize = 0;
-    let mut line: u32 = 0;
-    let mut src_line: u32 = 0;
-    let mut src_col: u32 = 0;
-    while i < count {
+    let mut before = Before::default();
+    for i in 0..token::places_in(table.len()) {
         let t = token::token_at(table, i);
-        if !follows_ok(sources, names, line, src_line, src_col, t) {
+        if !follows_ok(sources, names, before, t) {
             return false;
         }
-        line = t.dst_line;
-        src_line = latest(t.source_id, src_line, t.src_line);
-        src_col = latest(t.source_id, src_col, t.src_col);
-        i += 1;
+        before = before.after(t);
     }
     true
 }

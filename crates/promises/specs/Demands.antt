@@ -27,10 +27,11 @@ use Rattle.encode.specs.Encode.{Encodes}
 use Rattle.encode.proofs.Unique as encode
 use Rattle.translate.specs.Translate.{Translates}
 use Rattle.translate.proofs.Whole as translate
-use Rattle.records.specs.declared.Answer.{Answer}
-use Rattle.records.specs.Records.{TranslatesRecords, answer_of}
+use Rattle.code.specs.Code.{answer_of}
+use Rattle.code.specs.declared.Answer.{Answer}
+use Rattle.records.specs.Records.{TranslatesRecords}
 use Rattle.records.proofs.Laws as records
-use Rattle.lookup.specs.Lookup.{Looks}
+use Rattle.lookup.specs.Lookup.{Looks, found_out}
 use Rattle.lookup.proofs.Best as lookup
 use Rattle.lookup_many.specs.Many.{pairs, line_of, col_of, LooksMany, Told}
 use Rattle.lookup_many.proofs.Whole as many
@@ -57,7 +58,7 @@ use Rattle.peghayrick.specs.declared.EncodedOut.{EncodedOut}
 use Rattle.peghayrick.specs.declared.ComparedOut.{ComparedOut}
 use Rattle.peghayrick.specs.declared.ComposedOut.{ComposedOut}
 use Rattle.peghayrick.specs.declared.NameOut.{NameOut}
-use Rattle.peghayrick.specs.Exports.{Goes, flag, decoded_out, encoded_out, found_out, compared_out, composed_out, name_out}
+use Rattle.peghayrick.specs.Exports.{Goes, flag, decoded_out, encoded_out, compared_out, composed_out, name_out}
 use Rattle.round.specs.Demand3.{ChunksJoin, WriteAndRead, CutAndRead, SurelyReadsBack, SurelyInBoth, ShortIsEarly, OneText}
 use Rattle.round.proofs.Demand3 as round
 
@@ -82,10 +83,10 @@ segment_behind = behind.behind
 
 -- pgk_encode
 pub one_encode : (table : List ℕ) (c : TokenChunk) (out : List ℕ) (r s : EncodedOut) (x y : List ℕ)
-    → Goes (λ e. Encodes table c out e x) encoded_out r → Goes (λ e. Encodes table c out e y) encoded_out s → (r ≡ s) × (x ≡ y)
+    → Goes (λ e. Encodes table c out e x) (encoded_out c) r → Goes (λ e. Encodes table c out e y) (encoded_out c) s → (r ≡ s) × (x ≡ y)
 one_encode table c out r s x y a b =
     let e = encode.one_answer table c out a.inner b.inner x y a.holds b.holds in
-    (a.says ∙ ap encoded_out e.0 ∙ sym b.says, e.1)
+    (a.says ∙ ap (encoded_out c) e.0 ∙ sym b.says, e.1)
 
 -- pgk_translate
 pub one_translate : (line source name : ℕ) (table : List ℕ) (r s : Answer) (x y : List ℕ)
@@ -96,8 +97,10 @@ one_translate line source name table r s x y a b =
 
 -- pgk_translate_tokens
 pub one_translate_tokens : (line source name : ℕ) (ts : List Token) (r s : Answer) (x y : List Token)
-    → TranslatesRecords line source name ts r x → TranslatesRecords line source name ts s y → (r ≡ s) × (x ≡ y)
-one_translate_tokens line source name ts r s x y a b = records.one_answer a b
+    → Goes (λ c. TranslatesRecords line source name ts c x) answer_of r → Goes (λ c. TranslatesRecords line source name ts c y) answer_of s → (r ≡ s) × (x ≡ y)
+one_translate_tokens line source name ts r s x y a b =
+    let e = records.one_answer a.holds b.holds in
+    (a.says ∙ ap answer_of e.0 ∙ sym b.says, e.1)
 
 -- pgk_lookup
 pub one_lookup : (table : List ℕ) (line col : ℕ) (r s : Answer) → Goes (Looks table line col) found_out r → Goes (Looks table line col) found_out s → r ≡ s

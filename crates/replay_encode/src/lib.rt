@@ -40,34 +40,24 @@ fn writes(numbers: &[u32], text: &[u8], out: &mut [u8], room: usize) -> bool
     requires in_bounds { 16 ≤ length numbers.now }
     requires room_in_bounds { room ≤ length out.old }
 {
-    let e = encode::serialize_mappings(&numbers[16..], chunk_in(numbers), &mut out[..room]);
-    let c = e.code;
-    if !replay::answers(c, 0, 0) {
+    let Ok(written) = encode::serialize_mappings(
+        &numbers[16..],
+        chunk_in(numbers),
+        &mut out[..room],
+    ) else {
         return false;
-    }
-    if e.bytes != text.len() {
-        return false;
-    }
-    let next = numbers_of(e.next);
-    if !replay::holds(&next, &numbers[8..16], 7) {
-        return false;
-    }
-    replay::holds_bytes(out, text, 7)
+    };
+    written.bytes == text.len()
+        && numbers_of(written.next)[..] == numbers[8..16]
+        && replay::holds(out, text, 7)
 }
 
 // A chunk, the chunk after it, tokens. The text. With more room than it takes, and with just enough.
 pub fn write_agrees(numbers: &[u32], text: &[u8]) -> bool {
-    if numbers.len() < 16 {
+    if numbers.len() < 16 || 3000 < text.len() {
         return false;
     }
-    let room = text.len();
-    if 3000 < room {
-        return false;
-    }
-    let mut wide = replay::seven_bytes();
-    if !writes(numbers, text, &mut wide, 3000) {
-        return false;
-    }
-    let mut exact = replay::seven_bytes();
-    writes(numbers, text, &mut exact, room)
+    let mut wide = [7u8; 3000];
+    let mut exact = [7u8; 3000];
+    writes(numbers, text, &mut wide, 3000) && writes(numbers, text, &mut exact, text.len())
 }

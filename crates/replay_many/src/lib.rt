@@ -5,57 +5,51 @@ ghost use Rattle.std.specs.Prelude.{◌≤◌, length};
 
 use code::Code;
 
-fn looked(table: &[u32], positions: &[u32], found: &mut [u32], quick: bool) -> Code {
-    if quick {
-        return lookup_quick::lookup_many_quick(table, positions, found);
-    }
-    lookup_many::lookup_many(table, positions, found)
-}
-
-// Into the first places of some that are sevens.
-fn finds(
+// Either call, into the first places of some that are sevens.
+fn finds<L: Fn(&[u32], &[u32], &mut [u32]) -> Result<(), Code>>(
+    looked: L,
     table: &[u32],
     positions: &[u32],
     want: &[u32],
     found: &mut [u32],
     room: usize,
-    quick: bool,
 ) -> bool
-    requires { room ≤ length found.old }
+    requires callable { L.IsAlwaysCallable looked }
+    requires roomy { room ≤ length found.old }
 {
-    let c = looked(table, positions, &mut found[..room], quick);
-    if !replay::answers(c, 0, 0) {
-        return false;
-    }
-    replay::holds(found, want, 7)
+    replay::answers(looked(table, positions, &mut found[..room]), 0, 0)
+        && replay::holds(found, want, 7)
 }
 
 // With more room than it takes, and with just enough.
-fn finds_twice(table: &[u32], positions: &[u32], want: &[u32], quick: bool) -> bool {
+fn finds_twice<L: Fn(&[u32], &[u32], &mut [u32]) -> Result<(), Code>>(
+    looked: L,
+    table: &[u32],
+    positions: &[u32],
+    want: &[u32],
+) -> bool
+    requires { L.IsAlwaysCallable looked }
+{
     let room = want.len();
     if 480 < room {
         return false;
     }
     let mut wide = replay::sevens();
-    if !finds(table, positions, want, &mut wide, 480, quick) {
-        return false;
-    }
     let mut exact = replay::sevens();
-    finds(table, positions, want, &mut exact, room, quick)
+    finds(&looked, table, positions, want, &mut wide, 480)
+        && finds(&looked, table, positions, want, &mut exact, room)
 }
 
 // By the plain call, and by the quick one.
 fn both_find(table: &[u32], positions: &[u32], want: &[u32]) -> bool {
-    if !finds_twice(table, positions, want, false) {
-        return false;
-    }
-    finds_twice(table, positions, want, true)
+    finds_twice(lookup_many::lookup_many, table, positions, want)
+        && finds_twice(lookup_quick::lookup_many_quick, table, positions, want)
 }
 
 // A line and a column for each position, and then the index of the token at each.
 fn list_agrees(table: &[u32], list: &[u32]) -> bool {
-    let end = 2 * (list.len() / 3);
-    both_find(table, &list[..end], &list[end..])
+    let (positions, want) = list.split_at(2 * (list.len() / 3));
+    both_find(table, positions, want)
 }
 
 // Tokens. Positions and what is found.

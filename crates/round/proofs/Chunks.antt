@@ -1,4 +1,5 @@
 -- The bytes and the end state of a list in pieces, and of a table in successive calls. Assumes nothing.
+use Rattle.std.specs.Prelude.{Result, Ok, is_ok}
 use mathlib.Core.Path.{◌≡◌, refl, ◌∙◌, ap, ap₂, subst}
 use mathlib.Core.Bool.{Bool, true, false}
 use mathlib.Core.List.{List, [], ◌∷◌, ◌++◌}
@@ -20,7 +21,7 @@ use Rattle.token.proofs.Laws.{length_tokens, tokens_add, tokens_none}
 use Rattle.encode.specs.declared.Encoded.{Encoded}
 use Rattle.chunk.proofs.Lists.{written_append, end_of_append}
 use Rattle.chunk.specs.Chunk.{fresh, with_ends, base_of, fields_of, bytes_of, after, written, end_of, first_back}
-use Rattle.encode.specs.Encode.{tokens_in, bytes_in, next_chunk, encoded, Encodes}
+use Rattle.encode.specs.Encode.{tokens_in, bytes_in, next_chunk, bytes_out, next_out, encoded, Encodes}
 use Rattle.round.specs.Terms.{whole, Call, Called, Cut, joined, last_state, AllDone}
 use Rattle.round.proofs.Round.{text_of}
 
@@ -74,15 +75,15 @@ end_spanned s e p (t ∷ ts) = ap (λ (q : TokenChunk). end_of q ts) (after_span
 -- ---- a call that nothing refuses
 pub done_call : (table : List ℕ) (c : TokenChunk) (room : ℕ) → bad_table (length table) ≡ false → c.start ≤ c.end → c.end ≤ places (length table)
     → first_back c.start c.prev_dst_line (tokens_in table c) ≡ none → length (bytes_in table c) ≤ room
-    → encoded table c room ≡ record { code = Code.Done; bytes = length (bytes_in table c); next = next_chunk c.end (end_of c (tokens_in table c)) }
+    → encoded table c room ≡ Ok (record { bytes = length (bytes_in table c); next = next_chunk c.end (end_of c (tokens_in table c)) })
 unfolding encoded
 done_call table c room g s e f r =
     rw (g, le-ltb c.end c.start s, le-ltb (places (length table)) c.end e, f, le-ltb room (length (bytes_in table c)) r)
 
 -- ---- the bytes that a call which is done hands over, of those that are lent to it
-module _ (table : List ℕ) (c : TokenChunk) (out : List ℕ) (r : Encoded) (out' : List ℕ) (w : Encodes table c out r out') (next : TokenChunk)
-    (e : encoded table c (length out) ≡ record { code = Code.Done; bytes = length (bytes_in table c); next = next }) where
-  pub handed : take r.bytes out' ≡ bytes_in table c
+module _ (table : List ℕ) (c : TokenChunk) (out : List ℕ) (r : Result Encoded Code) (out' : List ℕ) (w : Encodes table c out r out') (next : TokenChunk)
+    (e : encoded table c (length out) ≡ Ok (record { bytes = length (bytes_in table c); next = next })) where
+  pub handed : take (bytes_out r) out' ≡ bytes_in table c
   unfolding onto
   handed =
       let o : out' ≡ bytes_in table c ++ drop (length (bytes_in table c)) out = rw e at w.wrote in
@@ -121,13 +122,13 @@ module _ (table : List ℕ) (g : bad_table (length table) ≡ false) where
       let (f₁, f₂) = back_append i p a (rest k.end) (rw c at f) in
       let e = done_call table q (length k.out) g m.order m.within f₁ m.room in
       let r = m.meets.says ∙ e in
-      let x : k.answer.next ≡ next_chunk k.end (end_of p a)
-      = ap (λ (z : Encoded). z.next) r ∙ ap (next_chunk k.end) (end_spanned i k.end p a) in
-      let h : take k.answer.bytes k.out' ≡ written i p a
+      let x : next_out q k.answer ≡ next_chunk k.end (end_of p a)
+      = ap (next_out q) r ∙ ap (next_chunk k.end) (end_spanned i k.end p a) in
+      let h : take (bytes_out k.answer) k.out' ≡ written i p a
       = handed table q k.out k.answer k.out' m.meets (next_chunk k.end (end_of q a)) e ∙ written_spanned i i k.end p a in
       let t = joins ks k.end (end_of p a) (subst (λ (z : TokenChunk). Cut table z ks) x u.1) (rw n at f₂) in
       record {
-        done = (ap (λ (z : Encoded). z.code) r, t.done);
+        done = (ap is_ok r, t.done);
         bytes = ap₂ ◌++◌ h t.bytes ∙ rw (c, written_append i p a (rest k.end), n);
         last = rw (x, c, end_of_append p a (rest k.end)) t.last;
       }
@@ -153,11 +154,10 @@ module _ (table : List ℕ) where
 
   pub whole_call : (room : ℕ) → bad_table (length table) ≡ false → first_back 0 0 (tokens_of table) ≡ none → length (bytes_in table (whole table)) ≤ room
       → encoded table (whole table) room
-      ≡ record {
-        code = Code.Done;
+      ≡ Ok (record {
         bytes = length (bytes_in table (whole table));
         next = next_chunk (places (length table)) (end_of (fresh 0 0) (tokens_of table));
-      }
+      })
   whole_call room g f r =
       done_call table (whole table) room g (omega arith) (omega arith) (rw whole_tokens f) r
-      ∙ ap (λ (c : TokenChunk). record { code = Code.Done; bytes = length (bytes_in table (whole table)); next = c }) whole_end
+      ∙ ap (λ (c : TokenChunk). Ok (record { bytes = length (bytes_in table (whole table)); next = c })) whole_end

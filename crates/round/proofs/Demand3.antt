@@ -1,4 +1,5 @@
 -- Demand 3, each statement of specs/Demand3.antt proved. Assumes nothing.
+use Rattle.std.specs.Prelude.{Ok, is_ok}
 use mathlib.Core.Path.{◌≡◌, sym, ◌∙◌, ap}
 use mathlib.Core.Bool.{true, false}
 use mathlib.Core.List.{List, map}
@@ -17,7 +18,7 @@ use Rattle.value.specs.declared.Mode.{Mode}
 use Rattle.decode.specs.declared.Decoded.{Decoded}
 use Rattle.decode.specs.Mapping.{Out, answer, decoded}
 use Rattle.chunk.specs.Chunk.{fresh, first_back}
-use Rattle.encode.specs.declared.Encoded.{Encoded}
+use Rattle.encode.specs.Encode.{bytes_out, next_out}
 use Rattle.premises.specs.Premises.{SoundTable}
 use Rattle.checked_premises.specs.Checked.{takes_all}
 use Rattle.round.specs.Terms.{whole, Call, Cut, joined, AllDone, Early, Holds, Gives, Refused, Refuses, ReadsBack}
@@ -37,7 +38,7 @@ chunks_join table ks out e out' g f u r w =
     record {
       done = j.done;
       bytes = j.bytes ∙ rw z (sym (h ∙ whole_bytes table));
-      next = j.last ∙ rw z (sym (ap (λ (x : Encoded). x.next) (w.says ∙ q)));
+      next = j.last ∙ rw z (sym (ap (next_out (whole table)) (w.says ∙ q)));
     }
 
 -- tokens that agree with ts, written over a table
@@ -58,7 +59,7 @@ gives mode sources names xs text s k q early table d table' l w =
     let ts : List Token = placed 0 0 (fresh 0 0) (tokens_of xs) in
     let n : length (tokens_of xs) ≡ places (length xs) = length_tokens xs 0 (places (length xs)) in
     let m : length (tokens_of xs) ≤ places (length table) = omega (arith, n, l) in
-    let e : decoded mode sources names text (places (length table)) ≡ record { tokens = ts; code = Code.Done; offset = length text }
+    let e : decoded mode sources names text (places (length table)) ≡ record { tokens = ts; end = Ok tt; offset = length text }
     = rw q (back mode sources names (places (length table)) (tokens_of xs) (sound_tokens sources names xs s) k m (rw q at early)) in
     let c : length ts ≡ places (length xs) = length_placed 0 0 (fresh 0 0) (tokens_of xs) ∙ n in (
       rw c at (w.says ∙ ap answer e),
@@ -72,7 +73,7 @@ stops_at xs table r d table' says wrote o =
       before = o.before;
       t = o.t;
       stopped = o.first;
-      code = ap (λ (x : Decoded). x.code) says ∙ o.code;
+      code = ap (λ (x : Decoded). x.end) says ∙ o.code;
       tokens = ap (λ (x : Decoded). x.tokens) says ∙ ap length o.tokens ∙ length_placed 0 0 (fresh 0 0) o.before;
       offset = ap (λ (x : Decoded). x.offset) says ∙ o.offset ∙ omega arith;
       wrote = holds o.before r.tokens table table' (ap (map first_six) o.tokens ∙ same_placed 0 0 (fresh 0 0) o.before) wrote;
@@ -100,8 +101,8 @@ forth sources names xs s = never_back sources names 0 0 0 0 (tokens_of xs) (soun
 pub write_and_read : WriteAndRead
 write_and_read sources names xs out e out' s r w =
     let q = whole_call xs (length out) (not_bad sources names xs s) (forth sources names xs s) r in (
-      ap (λ (x : Encoded). x.code) (w.says ∙ q),
-      reads_back sources names xs (take e.bytes out') s (handed xs (whole xs) out e out' w _ q ∙ whole_bytes xs),
+      ap is_ok (w.says ∙ q),
+      reads_back sources names xs (take (bytes_out e) out') s (handed xs (whole xs) out e out' w _ q ∙ whole_bytes xs),
     )
 
 -- the calls over a table that meets the premises hand over its tokens' text

@@ -1,4 +1,5 @@
 -- The fields of a segment that is written read back. Assumes nothing.
+use Rattle.std.specs.Prelude.{Some, Ok}
 use mathlib.Core.Path.{◌≡◌, refl, sym, ◌∙◌, ap}
 use mathlib.Core.Bool.{true}
 use mathlib.Core.List.{List, [], ◌∷◌, ◌++◌, append_assoc}
@@ -11,7 +12,6 @@ use Rattle.digits.specs.Digits.{is_delim}
 use Rattle.value.specs.Value.{value_of}
 use Rattle.value.specs.declared.Mode.{Mode}
 use Rattle.vlq.specs.Vlq.{vlq_of}
-use Rattle.vlq.specs.declared.Vlq.TheVariants.{Value}
 use Rattle.vlq_write.specs.Write.{write_of}
 use Rattle.segment.specs.Segment.{Field, whole, before, starts, fields_from}
 use Rattle.segment.proofs.Reach.{fields_skip}
@@ -38,7 +38,7 @@ fields_end mode at [] h = refl
 fields_end mode at (b ∷ bs) h = rw h
 
 -- a value's digits b ∷ bs are read, and the fields go on behind them
-fields_next : (mode : Mode) (at b v : ℕ) (bs rest : List ℕ) → vlq_of at (b ∷ (bs ++ rest)) ≡ Value v 0 (at + suc (length bs))
+fields_next : (mode : Mode) (at b v : ℕ) (bs rest : List ℕ) → vlq_of at (b ∷ (bs ++ rest)) ≡ Ok (Some (v, 0, at + suc (length bs)))
     → fields_from mode 0 at (b ∷ (bs ++ rest))
     ≡ before (record { value = value_of mode v 0; start = at }) (fields_from mode 0 (at + suc (length bs)) rest)
 unfolding fields_from
@@ -53,7 +53,7 @@ fields_value : (mode : Mode) (at v : ℕ) (rest : List ℕ) → v < 2 ^ 33
     ≡ before (record { value = value_of mode v 0; start = at }) (fields_from mode 0 (at + length (write_of v)) rest)
 fields_value mode at v rest h =
     let d = head v in
-    let e : vlq_of at (write_of v ++ rest) ≡ Value v 0 (at + length (write_of v)) = value_back at v rest h in
+    let e : vlq_of at (write_of v ++ rest) ≡ Ok (Some (v, 0, at + length (write_of v))) = value_back at v rest h in
     rw d.is (fields_next mode at d.b v d.bs rest (rw d.is at e))
 
 pub fields_back : (mode : Mode) (at : ℕ) (vs rest : List ℕ) → Small vs → Ends rest

@@ -1,4 +1,5 @@
 -- Which fields of a segment that is written are too wide: in each mode, those that it does not take. Assumes nothing.
+use Rattle.std.specs.Prelude.{Some, None}
 use mathlib.Core.Path.{◌≡◌, refl, ◌∙◌, ap}
 use mathlib.Core.Bool.{Bool, true, false, not}
 use mathlib.Core.List.{List, [], ◌∷◌}
@@ -30,14 +31,14 @@ off_is Checked v =
     let z : v + 2 ^ 64 * 0 ≡ v = omega arith in
     ap (λ (u : ℕ). is_wide (signed u)) z ∙ wide_is v ∙ twice (too_wide v)
 
-pub none_off : (mode : Mode) (vs : List ℕ) (i at : ℕ) → takes_each mode vs ≡ true → wide_from i (fields_at mode at vs) ≡ 5
+pub none_off : (mode : Mode) (vs : List ℕ) (i at : ℕ) → takes_each mode vs ≡ true → wide_from i (fields_at mode at vs) ≡ None
 unfolding wide_from takes_each
 none_off mode [] i at k = refl
 none_off mode (v ∷ vs) i at k = by (takes mode v) refl (none_off mode vs (i + 1) (at + length (write_of v))) k
   where
-    by : (b : Bool) → takes mode v ≡ b → (takes_each mode vs ≡ true → wide_from (i + 1) (fields_at mode (at + length (write_of v)) vs) ≡ 5)
+    by : (b : Bool) → takes mode v ≡ b → (takes_each mode vs ≡ true → wide_from (i + 1) (fields_at mode (at + length (write_of v)) vs) ≡ None)
         → both b (takes_each mode vs) ≡ true
-        → pick (both (is_wide (value_of mode v 0)) (ltb i 5)) i (wide_from (i + 1) (fields_at mode (at + length (write_of v)) vs)) ≡ 5
+        → pick (both (is_wide (value_of mode v 0)) (ltb i 5)) (Some i) (wide_from (i + 1) (fields_at mode (at + length (write_of v)) vs)) ≡ None
     by true e ih k = rw (off_is mode v, e) (ih k)
     by false e ih k = let z : ◌≡◌ {A = ℕ} 0 1 = cc in absurd (omega (arith, z))
 
@@ -52,22 +53,18 @@ off_less (v ∷ vs) k = by (takes Checked v) (off_less vs) k
     by true ih k = omega (arith, ih k)
     by false ih k = omega arith
 
-first_off_from : (vs : List ℕ) (i at : ℕ) → takes_each Checked vs ≡ false → i + length vs ≤ 5 → wide_from i (fields_at Checked at vs) ≡ i + first_off vs
+first_off_from : (vs : List ℕ) (i at : ℕ) → takes_each Checked vs ≡ false → i + length vs ≤ 5 → wide_from i (fields_at Checked at vs) ≡ Some (i + first_off vs)
 unfolding wide_from takes_each first_off
 first_off_from [] i at k l = let z : ◌≡◌ {A = ℕ} 0 1 = cc in absurd (omega (arith, z))
 first_off_from (v ∷ vs) i at k l = by (takes Checked v) refl (λ q. first_off_from vs (i + 1) (at + length (write_of v)) q (omega arith)) k
   where
     by : (b : Bool) → takes Checked v ≡ b
-        → (takes_each Checked vs ≡ false → wide_from (i + 1) (fields_at Checked (at + length (write_of v)) vs) ≡ i + 1 + first_off vs)
+        → (takes_each Checked vs ≡ false → wide_from (i + 1) (fields_at Checked (at + length (write_of v)) vs) ≡ Some (i + 1 + first_off vs))
         → both b (takes_each Checked vs) ≡ false
-        → pick (both (is_wide (value_of Checked v 0)) (ltb i 5)) i (wide_from (i + 1) (fields_at Checked (at + length (write_of v)) vs)) ≡ i + pick b (first_off vs + 1) 0
-    by true e ih k = rw (off_is Checked v, e) (ih k ∙ omega arith)
-    by false e ih k = rw (off_is Checked v, e, lt-ltb i 5 (omega arith)) (omega arith)
+        → pick (both (is_wide (value_of Checked v 0)) (ltb i 5)) (Some i) (wide_from (i + 1) (fields_at Checked (at + length (write_of v)) vs)) ≡ Some (i + pick b (first_off vs + 1) 0)
+    by true e ih k = rw (off_is Checked v, e) (ih k ∙ ap Some (omega arith))
+    by false e ih k = rw (off_is Checked v, e, lt-ltb i 5 (omega arith)) (ap Some (omega arith))
 
 -- so it is the segment's first field that is too wide
-pub record Off (vs : List ℕ) (at : ℕ) : Type 0 where
-  pub is : wide_from 0 (fields_at Checked at vs) ≡ first_off vs
-  pub less : first_off vs < 5
-
-pub is_off : (vs : List ℕ) (at : ℕ) → takes_each Checked vs ≡ false → length vs ≤ 5 → Off vs at
-is_off vs at k l = record { is = first_off_from vs 0 at k (omega arith) ∙ omega arith; less = omega (arith, off_less vs k) }
+pub is_off : (vs : List ℕ) (at : ℕ) → takes_each Checked vs ≡ false → length vs ≤ 5 → wide_from 0 (fields_at Checked at vs) ≡ Some (first_off vs)
+is_off vs at k l = first_off_from vs 0 at k (omega arith) ∙ ap Some (omega arith)

@@ -11,8 +11,7 @@ use borrow.Author.Tests.{eqb-true, eqb-false}
 use Rattle.list.specs.Pick.{pick}
 use Rattle.digits.specs.Digits.{is_delim}
 use Rattle.value.specs.declared.Mode.{Mode}
-use Rattle.step.specs.declared.Step.{Step}
-use Rattle.step.specs.Step.{step_from}
+use Rattle.step.specs.Step.{step_from, Step}
 use Rattle.chunk.specs.Chunk.{lead}
 use Rattle.round.proofs.Fields.{Ends}
 use Rattle.apply.specs.Apply.{state}

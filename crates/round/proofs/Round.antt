@@ -1,4 +1,5 @@
 -- The round trip from the start, and what else demand 3 needs of the premises. Assumes nothing.
+use Rattle.std.specs.Prelude.{Ok}
 use mathlib.Core.Path.{◌≡◌, refl, sym}
 use mathlib.Core.Bool.{Bool, true, false}
 use mathlib.Core.List.{List, [], ◌∷◌}
@@ -44,7 +45,7 @@ at_start : (mode : Mode) (sources names : ℕ) (text : List ℕ) → Passed mode
 at_start mode sources names text = λ h. absurd (omega arith)
 
 pub back : (mode : Mode) (sources names room : ℕ) (ts : List Token) → Sound sources names ts → takes_all mode ts ≡ true → length ts ≤ room → Early (text_of ts)
-    → decoded mode sources names (text_of ts) room ≡ record { tokens = placed 0 0 (fresh 0 0) ts; code = Code.Done; offset = length (text_of ts) }
+    → decoded mode sources names (text_of ts) room ≡ record { tokens = placed 0 0 (fresh 0 0) ts; end = Ok tt; offset = length (text_of ts) }
 back mode sources names room ts s k l early =
     run_back mode sources names ts (text_of ts) room 0 0 (fresh 0 0) zeros_held s.fits s.meets k l refl early (at_start mode sources names (text_of ts))
 

@@ -1,4 +1,5 @@
 -- The text of a list of tokens, decoded from the state where the writer stood, gives the tokens. Assumes nothing.
+use Rattle.std.specs.Prelude.{Some, Ok}
 use mathlib.Core.Path.{◌≡◌, refl, sym, ◌∙◌, ap}
 use mathlib.Core.Bool.{Bool, true, false}
 use mathlib.Core.List.{List, [], ◌∷◌, ◌++◌, append_assoc}
@@ -17,11 +18,9 @@ use Rattle.token.proofs.Same.{bare}
 use Rattle.token.specs.declared.TokenChunk.{TokenChunk}
 use Rattle.digits.specs.Digits.{is_delim}
 use Rattle.value.specs.declared.Mode.{Mode}
-use Rattle.segment.specs.Segment.{Field, whole, starts, fields_from, segment_of}
+use Rattle.segment.specs.Segment.{Field, whole, starts, fields_from, segment_of, gathered}
 use Rattle.apply.specs.declared.State.{State}
-use Rattle.apply.specs.declared.Applied.{Applied}
-use Rattle.step.specs.declared.Step.{Step}
-use Rattle.apply.specs.Apply.{applied}
+use Rattle.apply.specs.Apply.{applied, Applied}
 use Rattle.step.specs.Step.{stepped, segment_step, step_from, step_at}
 use Rattle.decode.specs.Mapping.{token_then, run}
 use Rattle.decode.proofs.Runs.{run_done, run_put}
@@ -46,7 +45,7 @@ no_delim false b e d = (e, d)
 segment_begins : (mode : Mode) (sources names : ℕ) (s : State) (b : ℕ) (bs : List ℕ) (fs : List Field) (next : ℕ) → is_delim b ≡ false
     → fields_from mode 0 s.at (b ∷ bs) ≡ whole fs next
     → step_from mode sources names s (b ∷ bs)
-    ≡ stepped s.at (starts fs) (applied mode sources names s (segment_of (whole fs next)))
+    ≡ stepped s.at (starts fs) (applied mode sources names s (gathered fs next))
 unfolding step_from segment_step is_delim
 segment_begins mode sources names s b bs fs next d e =
     let n = no_delim (eqb b 44) b refl d in
@@ -81,7 +80,7 @@ module _ (mode : Mode) (sources names : ℕ) where
     step_fields : (at : ℕ) (rest : List ℕ) → Ends rest
         → step_from mode sources names (led_to p t at) (spelled (fields_of p t) ++ rest)
         ≡ stepped at (starts (fields_at mode at (fields_of p t)))
-        (applied mode sources names (led_to p t at) (segment_of (whole (fields_at mode at (fields_of p t)) (at + length (spelled (fields_of p t))))))
+        (applied mode sources names (led_to p t at) (gathered (fields_at mode at (fields_of p t)) (at + length (spelled (fields_of p t)))))
     step_fields at rest z =
         let d = head_fields p t rest in
         let e = fields_back mode at (fields_of p t) rest (readable p t h f).0 z in
@@ -99,7 +98,7 @@ module _ (mode : Mode) (sources names : ℕ) where
     -- the token's bytes: a is what the fields do
     pub step_bytes : (first : Bool) (at : ℕ) (rest : List ℕ) → Ends rest → (a : Applied)
         → applied mode sources names (led_to p t (at + length (lead first p.prev_dst_line t.dst_line)))
-        (segment_of (whole (fields_at mode (at + length (lead first p.prev_dst_line t.dst_line)) (fields_of p t)) (at + length (bytes_of first p t))))
+        (gathered (fields_at mode (at + length (lead first p.prev_dst_line t.dst_line)) (fields_of p t)) (at + length (bytes_of first p t)))
         ≡ a
         → step_from mode sources names (state_of p at) (bytes_of first p t ++ rest)
         ≡ stepped (at + length (lead first p.prev_dst_line t.dst_line))
@@ -116,7 +115,7 @@ module _ (mode : Mode) (sources names : ℕ) where
 
     pub step_token : takes_each mode (fields_of p t) ≡ true → (first : Bool) (at : ℕ) (rest : List ℕ) → Ends rest
         → step_from mode sources names (state_of p at) (bytes_of first p t ++ rest)
-        ≡ Step.Put (bare t) (at + length (lead first p.prev_dst_line t.dst_line)) (state_of (after p t) (at + length (bytes_of first p t)))
+        ≡ Ok (Some (bare t, at + length (lead first p.prev_dst_line t.dst_line), state_of (after p t) (at + length (bytes_of first p t))))
     step_token k first at rest z =
         step_bytes first at rest z _ (taken p t mode sources names h f w k (at + length (lead first p.prev_dst_line t.dst_line)) (at + length (bytes_of first p t)))
 
@@ -142,7 +141,7 @@ module _ (mode : Mode) (sources names : ℕ) where
     abbrev next : ℕ
     next = at + length (bytes_of (eqb i 0) p t)
 
-    pub steps_on : step_at mode sources names text (state_of p at) ≡ Step.Put (bare t) (begin_of i at p t) (state_of (after p t) next)
+    pub steps_on : step_at mode sources names text (state_of p at) ≡ Ok (Some (bare t, begin_of i at p t, state_of (after p t) next))
     unfolding written
     steps_on =
         let m = meets_after sources names p t ts w in
@@ -173,7 +172,7 @@ module _ (mode : Mode) (sources names : ℕ) where
   pub run_back : (ts : List Token) (text : List ℕ) (room i at : ℕ) (p : TokenChunk) → Held p → fits32 (flat ts) ≡ true
       → Meets sources names p ts → takes_from mode p ts ≡ true → length ts ≤ room
       → drop at text ≡ written i p ts → Early text → Passed mode sources names text (state_of p at)
-      → run mode sources names text i room (state_of p at) ≡ record { tokens = placed i at p ts; code = Code.Done; offset = length text }
+      → run mode sources names text i room (state_of p at) ≡ record { tokens = placed i at p ts; end = Ok tt; offset = length text }
   unfolding placed written step_from
   run_back [] text room i at p h f w k l e early u = run_done mode sources names text i room (state_of p at) (ap (step_from mode sources names (state_of p at)) e)
   run_back (t ∷ ts) text zero i at p h f w k l e early u = absurd (not-suc-le-zero l)

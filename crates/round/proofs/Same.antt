@@ -1,5 +1,6 @@
 -- Two lists that meet the premises and make one text agree in the first six numbers, wherever its segments begin: the step tells which
 -- token was written. Assumes nothing.
+use Rattle.std.specs.Prelude.{Some, Ok}
 use mathlib.Core.Path.{◌≡◌, refl, sym, ◌∙◌, ap, ap₂}
 use mathlib.Core.Bool.{Bool, true}
 use mathlib.Core.List.{List, [], ◌∷◌}
@@ -14,16 +15,16 @@ use Rattle.token.specs.declared.TokenChunk.{TokenChunk}
 use Rattle.token.proofs.Same.{bare}
 use Rattle.value.specs.declared.Mode.{Mode}
 use Rattle.apply.specs.declared.State.{State}
-use Rattle.step.specs.declared.Step.{Step}
-use Rattle.step.specs.Step.{step_from}
+use Rattle.step.specs.Step.{step_from, Step}
 use Rattle.chunk.specs.Chunk.{base_of, fields_of, bytes_of, after, written}
 use Rattle.premises.specs.Premises.{fits32}
 use Rattle.round.proofs.Facts.{Held, held_after, Meets, meets_after}
 use Rattle.round.proofs.Run.{fits_after, steps_on}
 use Rattle.round.proofs.Round.{takes_each_lenient}
 
-put_same : {a b : Token} {m n : ℕ} {r q : State} → Step.Put a m r ≡ Step.Put b n q → a ≡ b
-put_same z = cc
+put_same : {a b : Token} {m n : ℕ} {r q : State} → ◌≡◌ {A = Step} (Ok (Some (a, m, r))) (Ok (Some (b, n, q))) → a ≡ b
+put_same {a} {b} {m} {n} {r} {q} z =
+    let w : ◌≡◌ {A = Token × ℕ × State} (a, m, r) (b, n, q) = cc in ap (λ (x : Token × ℕ × State). x.0) w
 
 same_bytes : (first : Bool) (p : TokenChunk) (t u : Token) → bare t ≡ bare u → bytes_of first p t ≡ bytes_of first p u
 unfolding bytes_of fields_of base_of

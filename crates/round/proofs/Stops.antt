@@ -1,4 +1,5 @@
 -- The text of tokens of which checked mode does not take a value is refused at the first such token. Assumes nothing.
+use Rattle.std.specs.Prelude.{Err}
 use mathlib.Core.Path.{◌≡◌, refl, sym, ◌∙◌, ap, subst}
 use mathlib.Core.Bool.{Bool, true, false}
 use mathlib.Core.List.{List, [], ◌∷◌}
@@ -32,7 +33,7 @@ pub record Outcome (i at : ℕ) (p : TokenChunk) (ts : List Token) (o : Out) : T
   pub before : List Token
   pub t : Token
   pub first : Stopped p ts before t
-  pub code : o.code ≡ Code.WideValue (first_off (fields_of (end_of p before) t))
+  pub code : o.end ≡ Err (Code.WideValue (first_off (fields_of (end_of p before) t)))
   pub tokens : o.tokens ≡ placed i at p before
   pub offset : o.offset ≡ at + bytes_before i p before t
 

@@ -1,4 +1,5 @@
 -- The segment of a token, read where the writer stood, gives the token and the state that the writer leaves. Assumes nothing.
+use Rattle.std.specs.Prelude.{Some, Ok, Err, ℤ}
 use mathlib.Core.Path.{◌≡◌, refl, ◌∙◌, ap}
 use mathlib.Core.Bool.{Bool, true, false}
 use mathlib.Core.List.{List, [], ◌∷◌}
@@ -14,15 +15,12 @@ use Rattle.token.specs.declared.Token.{Token}
 use Rattle.token.specs.declared.TokenChunk.{TokenChunk}
 use Rattle.value.specs.Value.{value_of, number_of}
 use Rattle.value.specs.declared.Mode.{Mode}
-use Rattle.segment.specs.Segment.{whole, segment_of}
+use Rattle.segment.specs.Segment.{whole, segment_of, gathered}
 use Rattle.segment.specs.declared.Segment.{Segment}
 use Rattle.apply.specs.declared.State.{State}
 use Rattle.apply.specs.declared.About.{About}
-use Rattle.apply.specs.declared.Applied.{Applied}
-use Rattle.apply.specs.Apply.{state, applied}
+use Rattle.apply.specs.Apply.{state, applied, refusal}
 use Rattle.sums.specs.Sums.{sum_of, id_of}
-use Rattle.sums.specs.declared.Kept.{Kept}
-use Rattle.sums.specs.declared.Id.{Id}
 use Rattle.vlq_write.specs.Write.{vlq_value}
 use Rattle.chunk.specs.Chunk.{base_of, fields_of, after}
 use Rattle.checked_premises.specs.Checked.{takes, takes_each}
@@ -111,14 +109,14 @@ module _ (p : TokenChunk) (t : Token) where
       (w : After sources names p t)
       (k : takes_each mode (fields_of p t) ≡ true) (at next : ℕ) where
     abbrev seg : List ℕ → Segment
-    seg vs = segment_of (whole (fields_at mode at vs) next)
+    seg vs = gathered (fields_at mode at vs) next
 
     -- the fields give the token
     abbrev Taken : List ℕ → Type 0
-    Taken vs = applied mode sources names (led_to p t at) (seg vs) ≡ Applied.Took (bare t) (state_of (after p t) next)
+    Taken vs = applied mode sources names (led_to p t at) (seg vs) ≡ Ok (bare t, state_of (after p t) next)
 
     -- ---- each sum is the token's own number
-    col : takes mode v₀ ≡ true → sum_of mode (pos (base_of p t) +ℤ number_of (value_of mode v₀ 0)) ≡ Kept.At t.dst_col
+    col : takes mode v₀ ≡ true → sum_of mode (pos (base_of p t) +ℤ number_of (value_of mode v₀ 0)) ≡ Ok t.dst_col
     col q = sum_back mode t.dst_col (base_of p t) f.col (base_less p t h) q
 
     without : is_none t.source_id ≡ true → Taken (v₀ ∷ [])
@@ -129,17 +127,17 @@ module _ (p : TokenChunk) (t : Token) where
         let k₀ = takes_cons mode v₀ [] k' in
         rw e
         (takes_one mode sources names (led_to p t at) (seg (v₀ ∷ [])) (none_off mode (v₀ ∷ []) 0 at k') t.dst_col (col k₀.0) refl
-        ∙ ap (λ (x : Token). Applied.Took x (state t.dst_line t.dst_col p.prev_src_line p.prev_src_col p.prev_source_id p.prev_name_id next))
+        ∙ ap (λ (x : Token). Ok (x, state t.dst_line t.dst_col p.prev_src_line p.prev_src_col p.prev_source_id p.prev_name_id next))
         (token_is t p.prev_src_line p.prev_src_col no_id no_id l.same_line l.same_col (eqb-true t.source_id no_id e) l.nameless))
 
     module _ (e : is_none t.source_id ≡ false) where
-      id : takes mode v₁ ≡ true → id_of sources (pos p.prev_source_id +ℤ number_of (value_of mode v₁ 0)) ≡ Id.Is t.source_id
+      id : takes mode v₁ ≡ true → id_of sources (pos p.prev_source_id +ℤ number_of (value_of mode v₁ 0)) ≡ Some t.source_id
       id q = id_back mode t.source_id p.prev_source_id f.source h.source q sources (w.sourced e)
 
-      line : takes mode v₂ ≡ true → sum_of mode (pos p.prev_src_line +ℤ number_of (value_of mode v₂ 0)) ≡ Kept.At t.src_line
+      line : takes mode v₂ ≡ true → sum_of mode (pos p.prev_src_line +ℤ number_of (value_of mode v₂ 0)) ≡ Ok t.src_line
       line q = sum_back mode t.src_line p.prev_src_line f.source_line h.source_line q
 
-      column : takes mode v₃ ≡ true → sum_of mode (pos p.prev_src_col +ℤ number_of (value_of mode v₃ 0)) ≡ Kept.At t.src_col
+      column : takes mode v₃ ≡ true → sum_of mode (pos p.prev_src_col +ℤ number_of (value_of mode v₃ 0)) ≡ Ok t.src_col
       column q = sum_back mode t.src_col p.prev_src_col f.source_col h.source_col q
 
       with_source : is_none t.name_id ≡ true → Taken (v₀ ∷ v₁ ∷ v₂ ∷ v₃ ∷ [])
@@ -153,7 +151,7 @@ module _ (p : TokenChunk) (t : Token) where
           rw (e, g)
           (takes_four mode sources names (led_to p t at) (seg (v₀ ∷ v₁ ∷ v₂ ∷ v₃ ∷ [])) (none_off mode (v₀ ∷ v₁ ∷ v₂ ∷ v₃ ∷ []) 0 at k') t.dst_col (col k₀.0)
           t.source_id t.src_line t.src_col (id k₁.0) (line k₂.0) (column k₃.0) refl
-          ∙ ap (λ (x : Token). Applied.Took x (state t.dst_line t.dst_col t.src_line t.src_col t.source_id p.prev_name_id next))
+          ∙ ap (λ (x : Token). Ok (x, state t.dst_line t.dst_col t.src_line t.src_col t.source_id p.prev_name_id next))
           (token_is t t.src_line t.src_col t.source_id no_id refl refl refl (eqb-true t.name_id no_id g)))
 
       with_name : is_none t.name_id ≡ false → Taken (v₀ ∷ v₁ ∷ v₂ ∷ v₃ ∷ v₄ ∷ [])
@@ -180,7 +178,7 @@ module _ (p : TokenChunk) (t : Token) where
 
 -- values of which checked mode does not take one: the segment is refused for the first of them
 pub stops : (sources names : ℕ) (s : State) (vs : List ℕ) (at next : ℕ) → takes_each Mode.Checked vs ≡ false → length vs ≤ 5
-    → applied Mode.Checked sources names s (segment_of (whole (fields_at Mode.Checked at vs) next))
-    ≡ Applied.Refused (Code.WideValue (first_off vs)) (About.Field (first_off vs))
+    → applied Mode.Checked sources names s (gathered (fields_at Mode.Checked at vs) next)
+    ≡ Err (refusal (Code.WideValue (first_off vs)) (About.Field (first_off vs)))
 unfolding applied
-stops sources names s vs at next k l = let o = is_off vs at k l in rw (o.is, lt-ltb (first_off vs) 5 o.less)
+stops sources names s vs at next k l = rw (is_off vs at k l)

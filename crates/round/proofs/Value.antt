@@ -1,4 +1,5 @@
 -- A value that is written reads back, whatever stands after it, and is the step between the two numbers. Assumes nothing.
+use Rattle.std.specs.Prelude.{Some, Ok, Option, None}
 use mathlib.Core.Path.{◌≡◌, refl, ◌∙◌, ap}
 use mathlib.Core.Bool.{Bool, true, false}
 use mathlib.Core.List.{List, ◌∷◌, ◌++◌}
@@ -14,12 +15,9 @@ use Rattle.value.specs.Standard.{too_wide, signed}
 use Rattle.value.specs.Value.{sign_of, value_of, number_of}
 use Rattle.value.specs.declared.Mode.{Mode}
 use Rattle.value.specs.declared.Mode.TheVariants.{Lenient, Checked}
-use Rattle.value.specs.declared.Judged.{Judged}
-use Rattle.value.specs.declared.Judged.TheVariants.{Is, Wide}
 use Rattle.value.proofs.Signed.{as_signed_low}
 use Rattle.value.proofs.Standard.{wide, value_plain}
 use Rattle.vlq.specs.Vlq.{vlq_of}
-use Rattle.vlq.specs.declared.Vlq.TheVariants.{Value}
 use Rattle.vlq_write.specs.Write.{vlq_value, write_of}
 use Rattle.vlq_write.proofs.Back.{starts, stands}
 use Rattle.vlq_write.proofs.Values as Written
@@ -39,7 +37,7 @@ pub head_append : (l r : List ℕ) → Head l → Head (l ++ r)
 head_append l r h = record { b = h.b; bs = h.bs ++ r; is = ap (λ (x : List ℕ). x ++ r) h.is; delim = h.delim }
 
 -- thirteen digits hold it, and it has no lost bit
-pub value_back : (at n : ℕ) (post : List ℕ) → n < 2 ^ 33 → vlq_of at (write_of n ++ post) ≡ Value n 0 (at + length (write_of n))
+pub value_back : (at n : ℕ) (post : List ℕ) → n < 2 ^ 33 → vlq_of at (write_of n ++ post) ≡ Ok (Some (n, 0, at + length (write_of n)))
 value_back at n post h =
     let m : n % 2 ^ 64 ≡ n = mod-eq_of_lt (omega arith) in
     let d : n / 2 ^ 64 ≡ 0 = div-eq_of_lt (omega arith) in
@@ -78,21 +76,21 @@ never_one true a b e h = omega (arith, rw e at h, ltb-true a b e)
 never_one false a b e h = omega (arith, rw e at h)
 
 -- a value that the mode takes
-taken : (mode : Mode) (n : ℕ) → takes mode n ≡ true → n < 2 ^ 33 → (n ≡ 1 → ⊥) → value_of mode n 0 ≡ Is (sign_of (pos n))
+taken : (mode : Mode) (n : ℕ) → takes mode n ≡ true → n < 2 ^ 33 → (n ≡ 1 → ⊥) → value_of mode n 0 ≡ Some (sign_of (pos n))
 unfolding takes too_wide value_of
-taken Lenient n k h m = ap (λ (z : ℤ). Is (sign_of z)) (as_signed_low n (omega arith))
+taken Lenient n k h m = ap (λ (z : ℤ). Some (sign_of z)) (as_signed_low n (omega arith))
 taken Checked n k h m = value_plain Checked n (omega (arith, leb-false 2147483648 (n / 2) (not-true (leb 2147483648 (n / 2)) k))) m
 
 -- one that checked mode does not take
-pub off : (n : ℕ) → takes Checked n ≡ false → value_of Checked n 0 ≡ Wide
+pub off : (n : ℕ) → takes Checked n ≡ false → value_of Checked n 0 ≡ None
 unfolding takes too_wide value_of
 off n k =
     let h = leb-true 2147483648 (n / 2) (not-false (leb 2147483648 (n / 2)) k) in
     let z : n + 2 ^ 64 * 0 ≡ n = omega arith in ap signed z ∙ wide n (omega (arith, h))
 
 module _ (mode : Mode) (a b : ℕ) (ha : a < 2 ^ 32) (hb : b < 2 ^ 32) (k : takes mode (vlq_value a b) ≡ true) where
-  pub value_is : value_of mode (vlq_value a b) 0 ≡ Is (sign_of (pos (vlq_value a b)))
+  pub value_is : value_of mode (vlq_value a b) 0 ≡ Some (sign_of (pos (vlq_value a b)))
   value_is = taken mode (vlq_value a b) k (Written.value_small a b ha hb) (never_one (ltb a b) a b refl)
 
   pub step_back : pos b +ℤ number_of (value_of mode (vlq_value a b) 0) ≡ pos a
-  step_back = ap (λ (x : Judged). pos b +ℤ number_of x) value_is ∙ step_by (ltb a b) a b refl
+  step_back = ap (λ (x : Option ℤ). pos b +ℤ number_of x) value_is ∙ step_by (ltb a b) a b refl

@@ -1,5 +1,5 @@
 -- docs/RULES.md, Demands: the terms in which demand 3 is said. Assumes nothing.
-use Rattle.std.specs.Prelude.{◌≡◌, true, false, List, [], ◌∷◌, ◌++◌, ℕ, ◌+◌, ◌*◌, ◌<◌, ◌≤◌, eqb, length, take, drop}
+use Rattle.std.specs.Prelude.{◌≡◌, true, false, List, [], ◌∷◌, ◌++◌, ℕ, ◌+◌, ◌*◌, ◌<◌, ◌≤◌, eqb, length, take, drop, Result, Ok, Err, is_ok}
 use Rattle.list.specs.Pick.{pick}
 use Rattle.code.specs.declared.Code.{Code}
 use Rattle.token.specs.Table.{no_segment, width, SameTokens, places, tokens_from, tokens_of}
@@ -11,7 +11,7 @@ use Rattle.decode.specs.Mapping.{Decodes}
 use Rattle.decode.specs.Where.{Begins}
 use Rattle.chunk.specs.Chunk.{fresh, with_ends, lead, fields_of, spelled, written, end_of}
 use Rattle.encode.specs.declared.Encoded.{Encoded}
-use Rattle.encode.specs.Encode.{bytes_in, Encodes}
+use Rattle.encode.specs.Encode.{bytes_in, bytes_out, next_out, Encodes}
 use Rattle.checked_premises.specs.Checked.{takes, takes_each, takes_from, takes_all}
 
 -- when tables count as the same: where their tokens agree in the first six numbers
@@ -28,7 +28,7 @@ whole table = fresh 0 (places (length table))
 pub record Call : Type 0 where
   pub end : ℕ
   pub out : List ℕ
-  pub answer : Encoded
+  pub answer : Result Encoded Code
   pub out' : List ℕ
 
 -- a call whose chunk begins where c does: it ends there or later, and not past the table, has room for its bytes, and does what the writer promises
@@ -41,22 +41,22 @@ pub record Called (table : List ℕ) (c : TokenChunk) (k : Call) : Type 0 where
 -- successive calls up to the table's end: each gets the state that the call before it answered, the first gets c
 unfoldable pub Cut : List ℕ → TokenChunk → List Call → Type 0
 Cut table c [] = c.start ≡ places (length table)
-Cut table c (k ∷ ks) = Called table c k × Cut table k.answer.next ks
+Cut table c (k ∷ ks) = Called table c k × Cut table (next_out (with_ends c.start k.end c) k.answer) ks
 
 -- the bytes that they hand over, joined
 unfoldable pub joined : List Call → List ℕ
 joined [] = []
-joined (k ∷ ks) = take k.answer.bytes k.out' ++ joined ks
+joined (k ∷ ks) = take (bytes_out k.answer) k.out' ++ joined ks
 
 -- the state that the last of them answers
 unfoldable pub last_state : TokenChunk → List Call → TokenChunk
 last_state c [] = c
-last_state c (k ∷ ks) = last_state k.answer.next ks
+last_state c (k ∷ ks) = last_state (next_out (with_ends c.start k.end c) k.answer) ks
 
 -- each is done
 unfoldable pub AllDone : List Call → Type 0
 AllDone [] = Unit {0}
-AllDone (k ∷ ks) = (k.answer.code ≡ Code.Done) × AllDone ks
+AllDone (k ∷ ks) = (is_ok k.answer ≡ true) × AllDone ks
 
 -- ---- what reads back
 
@@ -73,7 +73,7 @@ pub record Holds (ts : List Token) (table table' : List ℕ) : Type 0 where
 abbrev pub Gives : Mode → ℕ → ℕ → List ℕ → List ℕ → Type 0
 Gives mode sources names xs text =
     (table : List ℕ) (d : Decoded) (table' : List ℕ) → length xs ≤ length table → Decodes mode sources names text table d table'
-    → (d ≡ record { code = Code.Done; tokens = places (length xs); offset = length text }) × Holds (tokens_of xs) table table'
+    → (d ≡ record { end = Ok tt; tokens = places (length xs); offset = length text }) × Holds (tokens_of xs) table table'
 
 -- the index of the first of these values that checked mode does not take
 unfoldable pub first_off : List ℕ → ℕ
@@ -101,7 +101,7 @@ pub record Refused (xs table : List ℕ) (d : Decoded) (table' : List ℕ) : Typ
   pub before : List Token
   pub t : Token
   pub stopped : Stopped (fresh 0 0) (tokens_of xs) before t
-  pub code : d.code ≡ Code.WideValue (first_off (fields_of (end_of (fresh 0 0) before) t))
+  pub code : d.end ≡ Err (Code.WideValue (first_off (fields_of (end_of (fresh 0 0) before) t)))
   pub tokens : d.tokens ≡ length before
   pub offset : d.offset ≡ bytes_before 0 (fresh 0 0) before t
   pub wrote : Holds before table table'

@@ -1,6 +1,6 @@
 -- Worked texts: what is written of the last pair of tokens, whole and cut, and of two equal tokens, computed; and that the pair can be
 -- cut, so that what is said of cuts is said of something. Assumes nothing.
-use Rattle.std.specs.Prelude.{◌≡◌, refl, true, List, [], ◌∷◌, ℕ}
+use Rattle.std.specs.Prelude.{◌≡◌, refl, true, List, [], ◌∷◌, ℕ, Ok, Err}
 use Rattle.std.proofs.Common.{arith}
 use Rattle.list.specs.Memory.{onto}
 use Rattle.code.specs.declared.Code.{Code}
@@ -8,7 +8,7 @@ use Rattle.token.specs.Table.{no_id, no_segment, token_at, tokens_from}
 use Rattle.digits.specs.Digits.{char_of}
 use Rattle.vlq_write.specs.Write.{vlq_value, digits_of}
 use Rattle.chunk.specs.Chunk.{chunk_of, fresh, lead, base_of, fields_of, spelled, bytes_of, after, written, end_of, first_back}
-use Rattle.encode.specs.Encode.{bytes_in, given_back, encoded}
+use Rattle.encode.specs.Encode.{bytes_in, encoded}
 use Rattle.premises.specs.Premises.{follows, follow, decides}
 use Rattle.round.specs.Terms.{whole, Call, Cut, joined}
 
@@ -28,9 +28,9 @@ whole_pair = refl
 -- `AAEG`, nothing, then `;C`; the last has a byte to spare, which is kept
 abbrev three : List Call
 three =
-    record { end = 1; out = 9 ∷ 9 ∷ 9 ∷ 9 ∷ []; answer = record { code = Code.Done; bytes = 4; next = chunk_of 1 1 0 0 2 3 0 0 }; out' = 65 ∷ 65 ∷ 69 ∷ 71 ∷ [] } ∷
-    record { end = 1; out = []; answer = record { code = Code.Done; bytes = 0; next = chunk_of 1 1 0 0 2 3 0 0 }; out' = [] } ∷
-    record { end = 2; out = 9 ∷ 9 ∷ 9 ∷ []; answer = record { code = Code.Done; bytes = 2; next = chunk_of 2 2 1 1 2 3 0 0 }; out' = 59 ∷ 67 ∷ 9 ∷ [] } ∷ []
+    record { end = 1; out = 9 ∷ 9 ∷ 9 ∷ 9 ∷ []; answer = Ok (record { bytes = 4; next = chunk_of 1 1 0 0 2 3 0 0 }); out' = 65 ∷ 65 ∷ 69 ∷ 71 ∷ [] } ∷
+    record { end = 1; out = []; answer = Ok (record { bytes = 0; next = chunk_of 1 1 0 0 2 3 0 0 }); out' = [] } ∷
+    record { end = 2; out = 9 ∷ 9 ∷ 9 ∷ []; answer = Ok (record { bytes = 2; next = chunk_of 2 2 1 1 2 3 0 0 }); out' = 59 ∷ 67 ∷ 9 ∷ [] } ∷ []
 
 pub cut_pair : Cut pair (fresh 0 0) three
 unfolding Cut onto encoded first_back end_of tokens_from token_at written bytes_of lead spelled fields_of base_of after vlq_value digits_of char_of
@@ -46,8 +46,8 @@ pub joined_pair : joined three ≡ 65 ∷ 65 ∷ 69 ∷ 71 ∷ 59 ∷ 67 ∷ []
 unfolding joined
 joined_pair = refl
 
--- a byte short: the call is refused, and its chunk handed back
-pub short_pair : encoded pair (chunk_of 1 2 0 0 2 3 0 0) 1 ≡ given_back (chunk_of 1 2 0 0 2 3 0 0) (Code.NoRoom 2)
+-- a byte short: the call is refused
+pub short_pair : encoded pair (chunk_of 1 2 0 0 2 3 0 0) 1 ≡ Err (Code.NoRoom 2)
 unfolding encoded first_back end_of tokens_from token_at written bytes_of lead spelled fields_of base_of after vlq_value digits_of char_of
 short_pair = refl
 

@@ -1,21 +1,18 @@
 -- The segment's loop, as laws of the definitions. Assumes nothing.
+use Rattle.std.specs.Prelude.{Option, Some, None, Ok, Err}
 use Rattle.std.proofs.Common.{◌≡◌, ℕ, ◌+◌, ◌-◌, ◌<◌, ◌≤◌, List, [], ◌∷◌, ◌++◌, length, take, drop, set, ℤ, pos, sym, refl, ap, ◌∙◌, ap₂, append_assoc, append-nil, arith, length-append, w64, to_z, of_z}
 use mir.ValLaws.{to_z-of_z}
 use Rattle.value.specs.Value.{value_of, number_of, is_wide}
 use Rattle.value.specs.declared.Mode.{Mode}
-use Rattle.value.specs.declared.Judged.{Judged}
-use Rattle.value.specs.declared.Judged.TheVariants.{Is, Wide}
 use Rattle.value.proofs.Range.{small_fits}
-use Rattle.vlq.specs.Vlq.{vlq_at}
-use Rattle.vlq.specs.declared.Vlq.{Vlq}
-use Rattle.vlq.specs.declared.Vlq.TheVariants.{End, Value, Leftover, Overflow}
+use Rattle.vlq.specs.Vlq.{vlq_at, Vlq}
 use Rattle.vlq.proofs.Values.{Read, value}
 use Rattle.segment.specs.Segment.{Field, Fields, whole, leftover, overflow, before, field_then, fields_from, values, wide_from, zeros, segment_of, segment_at}
 use Rattle.segment.specs.Fields.{widened}
-use Rattle.segment.specs.declared.Ending.{Ending}
 use Rattle.segment.proofs.Five.{keeps, passes, fills}
 use Rattle.segment.proofs.Reach.{answered, past}
 use Rattle.segment.proofs.TooWide.{wide_same, wide_new}
+use Rattle.vlq.specs.declared.Broken.{Broken}
 
 -- fields before others
 abbrev onto : List Field → Fields → Fields
@@ -42,7 +39,7 @@ length_values [] = refl
 length_values (f ∷ fs) = omega (arith, length_values fs)
 
 -- fields fs are read, up to i
-pub record Parsing (mode : Mode) (s : List ℕ) (at : ℕ) (nums : List ℤ) (wide count i : ℕ) : Type 0 where
+pub record Parsing (mode : Mode) (s : List ℕ) (at : ℕ) (nums : List ℤ) (wide : Option ℕ) (count i : ℕ) : Type 0 where
   pub fs : List Field
   pub counted : length fs ≡ count
   pub kept : nums ≡ take 5 (values fs ++ zeros)
@@ -51,7 +48,7 @@ pub record Parsing (mode : Mode) (s : List ℕ) (at : ℕ) (nums : List ℤ) (wi
   pub few : count ≤ length s
   pub is : fields_from mode 0 at (drop at s) ≡ onto fs (fields_from mode 0 i (drop i s))
 
-pub start : (mode : Mode) (s : List ℕ) (at : ℕ) → Parsing mode s at zeros 5 0 at
+pub start : (mode : Mode) (s : List ℕ) (at : ℕ) → Parsing mode s at zeros None 0 at
 unfolding wide_from
 start mode s at =
     record {
@@ -65,36 +62,33 @@ start mode s at =
     }
 
 -- the loop has read one more, up to i'
-pub record Turn (mode : Mode) (s : List ℕ) (at count i : ℕ) (nums' : List ℤ) (wide' i' : ℕ) : Type 0 where
+pub record Turn (mode : Mode) (s : List ℕ) (at count i : ℕ) (nums' : List ℤ) (wide' : Option ℕ) (i' : ℕ) : Type 0 where
   pub again : Parsing mode s at nums' wide' (count + 1) i'
   pub less : length s - i' < length s - i
   pub fits : count + 1 ≤ length s
 
-module _ (mode : Mode) (s : List ℕ) (at : ℕ) (nums : List ℤ) (wide count i : ℕ) (p : Parsing mode s at nums wide count i) where
+module _ (mode : Mode) (s : List ℕ) (at : ℕ) (nums : List ℤ) (wide : Option ℕ) (count i : ℕ) (p : Parsing mode s at nums wide count i) where
   step : (r : Vlq) → r ≡ vlq_at s i
       → fields_from mode 0 at (drop at s) ≡ onto p.fs (field_then mode i r (λ next. fields_from mode (next - (i + 1)) (i + 1) (drop 1 (drop i s))))
   step r e = p.is ∙ ap (onto p.fs) (answered mode s i r (sym e))
 
-  pub ends : End ≡ vlq_at s i → record { end = Ending.Whole; nums = nums; wide = wide; count = count; next = i } ≡ segment_at mode s at
+  pub ends : Ok None ≡ vlq_at s i → Ok (record { nums = nums; wide = wide; count = count; next = i }) ≡ segment_at mode s at
   unfolding segment_at
-  ends e = sym (ap segment_of (step End e) ∙ rw (append-nil p.fs, ← p.kept, ← p.judged, p.counted))
+  ends e = sym (ap segment_of (step (Ok None) e) ∙ rw (append-nil p.fs, ← p.kept, ← p.judged, p.counted))
 
-  pub cut : (place : ℕ) → Leftover place ≡ vlq_at s i → segment_of (leftover place) ≡ segment_at mode s at
+  pub breaks : (b : Broken) → Err b ≡ vlq_at s i → Err b ≡ segment_at mode s at
   unfolding segment_at
-  cut place e = sym (ap segment_of (step (Leftover place) e))
+  breaks (Broken.Leftover place) e = sym (ap segment_of (step (Err (Broken.Leftover place)) e))
+  breaks (Broken.Overflow place) e = sym (ap segment_of (step (Err (Broken.Overflow place)) e))
 
-  pub long : (place : ℕ) → Overflow place ≡ vlq_at s i → segment_of (overflow place) ≡ segment_at mode s at
-  unfolding segment_at
-  long place e = sym (ap segment_of (step (Overflow place) e))
-
-  module _ (bits lost next : ℕ) (e : Value bits lost next ≡ vlq_at s i) where
+  module _ (bits lost next : ℕ) (e : Ok (Some (bits, lost, next)) ≡ vlq_at s i) where
     r : Read s i bits lost next
     r = value s i bits lost next (sym e)
 
     f : Field
     f = record { value = value_of mode bits lost; start = i }
 
-    turn : (nums' : List ℤ) (wide' : ℕ) → nums' ≡ take 5 ((values p.fs ++ (number_of (value_of mode bits lost) ∷ [])) ++ zeros)
+    turn : (nums' : List ℤ) (wide' : Option ℕ) → nums' ≡ take 5 ((values p.fs ++ (number_of (value_of mode bits lost) ∷ [])) ++ zeros)
         → wide' ≡ wide_from 0 (p.fs ++ (f ∷ [])) → Turn mode s at count i nums' wide' next
     unfolding f
     turn nums' wide' k w =
@@ -108,7 +102,7 @@ module _ (mode : Mode) (s : List ℕ) (at : ℕ) (nums : List ℤ) (wide count i
                 moved = omega (arith, r.past, p.moved);
                 few = omega (arith, r.past, r.within, p.moved);
                 is =
-                    step (Value bits lost next) e
+                    step (Ok (Some (bits, lost, next))) e
                     ∙ ap (λ (t : Fields). onto p.fs (before f t)) (past mode s i next r.past r.within)
                     ∙ onto_before p.fs f (fields_from mode 0 next (drop next s));
               };
@@ -117,9 +111,9 @@ module _ (mode : Mode) (s : List ℕ) (at : ℕ) (nums : List ℤ) (wide count i
         }
 
     -- the code has found the number x, and reads it back from its bits
-    module _ (x : ℤ) (ex : Is x ≡ value_of mode bits lost) where
+    module _ (x : ℤ) (ex : Some x ≡ value_of mode bits lost) where
       back : to_z w64 (of_z w64 x) ≡ number_of (value_of mode bits lost)
-      back = ap (λ (y : Judged). to_z w64 (of_z w64 (number_of y))) ex ∙ to_z-of_z w64 (number_of (value_of mode bits lost)) (small_fits (number_of (value_of mode bits lost)) (r.small mode))
+      back = ap (λ (y : Option ℤ). to_z w64 (of_z w64 (number_of y))) ex ∙ to_z-of_z w64 (number_of (value_of mode bits lost)) (small_fits (number_of (value_of mode bits lost)) (r.small mode))
 
       narrow : wide ≡ wide_from 0 (p.fs ++ (f ∷ []))
       unfolding f
@@ -139,7 +133,7 @@ module _ (mode : Mode) (s : List ℕ) (at : ℕ) (nums : List ℤ) (wide count i
           narrow
 
     -- that it is too wide, which makes w of the index
-    pub widens : Wide ≡ value_of mode bits lost → (w : ℕ) → w ≡ widened wide count → Turn mode s at count i nums w next
+    pub widens : None ≡ value_of mode bits lost → (w : Option ℕ) → w ≡ widened wide count → Turn mode s at count i nums w next
     unfolding f
     widens ex w ew =
         let n : count ≡ 0 + length p.fs = omega (arith, p.counted) in

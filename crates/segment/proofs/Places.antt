@@ -1,16 +1,16 @@
 -- Where a field begins, from its digits alone: the loop that looks for it, and that it is the field's own place. Assumes nothing.
-use Rattle.std.proofs.Common.{◌≡◌, ℕ, zero, suc, ◌+◌, ◌-◌, ◌<◌, ◌≤◌, Bool, true, false, eqb, ltb, List, [], ◌∷◌, length, get_or, drop, sym, refl, ap, ◌∙◌, add-one, arith, drop_of_length-le, drop-cons, le-ltb, lt-ltb}
+use Rattle.std.specs.Prelude.{Some, None, Ok, Err}
+use Rattle.std.proofs.Common.{◌≡◌, ℕ, zero, suc, ◌+◌, ◌-◌, ◌/◌, ◌%◌, ◌^◌, ◌<◌, ◌≤◌, Bool, true, false, eqb, ltb, List, [], ◌∷◌, length, get_or, drop, sym, refl, ap, ◌∙◌, add-one, arith, drop_of_length-le, drop-cons, le-ltb, lt-ltb}
 use Rattle.list.specs.Pick.{pick}
 use Rattle.digits.specs.Digits.{digit_of, is_delim, class_of}
 use Rattle.value.specs.Value.{value_of}
 use Rattle.value.specs.declared.Mode.{Mode}
-use Rattle.vlq.specs.Vlq.{Digits, cut, long, num, push, digits_from, vlq_from, vlq_of}
-use Rattle.vlq.specs.declared.Vlq.{Vlq}
-use Rattle.vlq.specs.declared.Vlq.TheVariants.{End, Value, Leftover, Overflow}
-use Rattle.vlq.proofs.Values.{tail_size}
+use Rattle.vlq.specs.Vlq.{Digits, cut, long, num, push, digits_from, vlq_from, vlq_of, Vlq}
+use Rattle.vlq.proofs.Values.{parts, tail_size}
 use Rattle.segment.specs.Segment.{Field, Fields, whole, leftover, overflow, before, field_then, fields_from, starts}
 use Rattle.segment.specs.Fields.{place_from}
 use Rattle.segment.proofs.Reach.{fields_skip}
+use Rattle.vlq.specs.declared.Broken.{Broken}
 
 -- ---- the loop: k such digits are still to be passed from i on
 pub none_left : (k i : ℕ) (s : List ℕ) → length s ≤ i → place_from k i (drop i s) ≡ i
@@ -71,15 +71,15 @@ pub record Read (at : ℕ) (l : List ℕ) (next : ℕ) : Type 0 where
   pub is : digits_from 13 l ≡ num n len
   pub next_is : next ≡ at + len
 
-pub read : (at : ℕ) (b : ℕ) (bs : List ℕ) (bits lost next : ℕ) → vlq_of at (b ∷ bs) ≡ Value bits lost next → Read at (b ∷ bs) next
+pub read : (at : ℕ) (b : ℕ) (bs : List ℕ) (bits lost next : ℕ) → vlq_of at (b ∷ bs) ≡ Ok (Some (bits, lost, next)) → Read at (b ∷ bs) next
 unfolding vlq_of
 read at b bs bits lost next e = by (is_delim b) (digits_from 13 (b ∷ bs)) refl e
   where
-    by : (t : Bool) (r : Digits) → digits_from 13 (b ∷ bs) ≡ r → pick t End (vlq_from at r) ≡ Value bits lost next → Read at (b ∷ bs) next
+    by : (t : Bool) (r : Digits) → digits_from 13 (b ∷ bs) ≡ r → pick t (Ok None) (vlq_from at r) ≡ Ok (Some (bits, lost, next)) → Read at (b ∷ bs) next
     by true r q w = zero_one cc
     by false (cut k) q w = zero_one cc
     by false (long k) q w = zero_one cc
-    by false (num n len) q w = record { n = n; len = len; is = q; next_is = cc }
+    by false (num n len) q w = record { n = n; len = len; is = q; next_is = sym (parts (n % 2 ^ 64) (n / 2 ^ 64) (at + len) bits lost next w).2 }
 
 -- ---- the field's own place
 none_there : {A : Type 0} (i : ℕ) (fs : List Field) → [] ≡ fs → i < length fs → A
@@ -111,10 +111,10 @@ own mode zero at (b ∷ bs) fs next z e h = by (vlq_of at (b ∷ bs)) e
     first f (overflow place) q w = zero_one cc
 
     by : (r : Vlq) → field_then mode at r (λ next'. fields_from mode (next' - (at + 1)) (at + 1) bs) ≡ whole fs next → at ≡ get_or (starts fs) 0 z
-    by End w = none_there zero fs (cc) h
-    by (Value bits lost next') w = first (record { value = value_of mode bits lost; start = at }) (fields_from mode (next' - (at + 1)) (at + 1) bs) refl w
-    by (Leftover place) w = zero_one cc
-    by (Overflow place) w = zero_one cc
+    by (Ok None) w = none_there zero fs (cc) h
+    by (Ok (Some (bits, lost, next'))) w = first (record { value = value_of mode bits lost; start = at }) (fields_from mode (next' - (at + 1)) (at + 1) bs) refl w
+    by (Err (Broken.Leftover place)) w = zero_one cc
+    by (Err (Broken.Overflow place)) w = zero_one cc
 own mode (suc i) at (b ∷ bs) fs next z e h = by (vlq_of at (b ∷ bs)) refl e (own mode i)
   where
     more : (next' : ℕ) (r : Read at (b ∷ bs) next') (f : Field) (t : Fields) → fields_from mode 0 next' (drop r.len (b ∷ bs)) ≡ t
@@ -128,9 +128,9 @@ own mode (suc i) at (b ∷ bs) fs next z e h = by (vlq_of at (b ∷ bs)) refl e 
 
     by : (r : Vlq) → vlq_of at (b ∷ bs) ≡ r → field_then mode at r (λ next'. fields_from mode (next' - (at + 1)) (at + 1) bs) ≡ whole fs next
         → Own mode i → place_from (suc i) at (b ∷ bs) ≡ get_or (starts fs) (suc i) z
-    by End q w ih = none_there (suc i) fs (cc) h
-    by (Value bits lost next') q w ih =
+    by (Ok None) q w ih = none_there (suc i) fs (cc) h
+    by (Ok (Some (bits, lost, next'))) q w ih =
         let r = read at b bs bits lost next' q in
         more next' r (record { value = value_of mode bits lost; start = at }) (fields_from mode 0 next' (drop r.len (b ∷ bs))) refl (rw (behind mode at b bs next' r) at w) ih
-    by (Leftover place) q w ih = zero_one cc
-    by (Overflow place) q w ih = zero_one cc
+    by (Err (Broken.Leftover place)) q w ih = zero_one cc
+    by (Err (Broken.Overflow place)) q w ih = zero_one cc

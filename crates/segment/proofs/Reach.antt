@@ -1,8 +1,7 @@
 -- The fields from a place on, one value at a time, and how far they reach. Assumes nothing.
 use Rattle.std.proofs.Common.{◌≡◌, ℕ, zero, suc, ◌+◌, ◌-◌, ◌<◌, ◌≤◌, List, [], ◌∷◌, length, drop, sym, refl, ap, ◌∙◌, le_of_suc-le-suc, not-suc-le-zero, add-zero, arith, length-drop, drop-drop}
 use Rattle.value.specs.declared.Mode.{Mode}
-use Rattle.vlq.specs.Vlq.{vlq_of, vlq_at}
-use Rattle.vlq.specs.declared.Vlq.{Vlq}
+use Rattle.vlq.specs.Vlq.{vlq_of, vlq_at, Vlq}
 use Rattle.segment.specs.Segment.{field_then, fields_from}
 
 pub fields_skip : (mode : Mode) (k at : ℕ) (bs : List ℕ) → k ≤ length bs → fields_from mode k at bs ≡ fields_from mode 0 (at + k) (drop k bs)

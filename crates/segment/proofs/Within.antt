@@ -1,16 +1,16 @@
 -- Where the fields of a segment lie: no delimiter stands among them. And what stands behind them plays no part. Assumes nothing.
+use Rattle.std.specs.Prelude.{Some, None, Ok, Err}
 use Rattle.std.proofs.Common.{◌≡◌, ℕ, zero, suc, ◌+◌, ◌-◌, ◌<◌, ◌≤◌, Bool, true, false, eqb, ltb, List, [], ◌∷◌, take, drop, sym, refl, ap, ◌∙◌, subst, add-one, arith}
 use Rattle.list.specs.Pick.{pick}
 use Rattle.digits.specs.Digits.{digit_of, is_delim}
 use Rattle.value.specs.Value.{value_of}
 use Rattle.value.specs.declared.Mode.{Mode}
-use Rattle.vlq.specs.Vlq.{Digits, cut, long, num, push, digits_from, vlq_from, vlq_of}
-use Rattle.vlq.specs.declared.Vlq.{Vlq}
-use Rattle.vlq.specs.declared.Vlq.TheVariants.{End, Value, Leftover, Overflow}
+use Rattle.vlq.specs.Vlq.{Digits, cut, long, num, push, digits_from, vlq_from, vlq_of, Vlq}
 use Rattle.vlq.proofs.Values.{tail_size}
 use Rattle.segment.specs.Segment.{Field, Fields, whole, leftover, overflow, before, field_then, fields_from}
 use Rattle.segment.proofs.Border.{Ends, ends, end_delim}
 use Rattle.segment.proofs.Places.{Read, read, behind}
+use Rattle.vlq.specs.declared.Broken.{Broken}
 
 zero_one : {A : Type 0} → ◌≡◌ {A = ℕ} 0 1 → A
 zero_one z = absurd (omega arith)
@@ -62,16 +62,16 @@ unfolding Broke
 broke_at at k l h = let n : at + k - at ≡ k = omega arith in (omega arith, rw n h)
 
 Breaks : ℕ → List ℕ → Vlq → Type 0
-Breaks at l End = Unit {0}
-Breaks at l (Value bits lost next) = Unit {0}
-Breaks at l (Leftover place) = Broke at l place
-Breaks at l (Overflow place) = Broke at l place
+Breaks at l (Ok None) = Unit {0}
+Breaks at l (Ok (Some (bits, lost, next))) = Unit {0}
+Breaks at l (Err (Broken.Leftover place)) = Broke at l place
+Breaks at l (Err (Broken.Overflow place)) = Broke at l place
 
 breaks : (at b : ℕ) (bs : List ℕ) → Breaks at (b ∷ bs) (vlq_of at (b ∷ bs))
 unfolding vlq_of Breaks
 breaks at b bs = by (is_delim b) (digits_from 13 (b ∷ bs)) (digits_clear 13 (b ∷ bs))
   where
-    by : (t : Bool) (r : Digits) → Clear (reach r) (b ∷ bs) → Breaks at (b ∷ bs) (pick t End (vlq_from at r))
+    by : (t : Bool) (r : Digits) → Clear (reach r) (b ∷ bs) → Breaks at (b ∷ bs) (pick t (Ok None) (vlq_from at r))
     by true r h = tt
     by false (cut k) h = broke_at at k (b ∷ bs) h
     by false (long k) h = broke_at at k (b ∷ bs) h
@@ -122,13 +122,13 @@ lies mode zero at (b ∷ bs) h = by (vlq_of at (b ∷ bs)) refl (λ next. lies m
   where
     by : (r : Vlq) → vlq_of at (b ∷ bs) ≡ r → ((next : ℕ) → Clear (next - (at + 1)) bs → Lies (at + 1) bs (fields_from mode (next - (at + 1)) (at + 1) bs))
         → Lies at (b ∷ bs) (field_then mode at r (λ next. fields_from mode (next - (at + 1)) (at + 1) bs))
-    by End e ih = nothing_lies at (b ∷ bs)
-    by (Value bits lost next) e ih =
+    by (Ok None) e ih = nothing_lies at (b ∷ bs)
+    by (Ok (Some (bits, lost, next))) e ih =
         let c = read_clear at b bs next (read at b bs bits lost next e) in
         before_lies at (b ∷ bs) (record { value = value_of mode bits lost; start = at }) (fields_from mode (next - (at + 1)) (at + 1) bs) refl
         (later at b bs (fields_from mode (next - (at + 1)) (at + 1) bs) c.0 (ih next c.1))
-    by (Leftover place) e ih = subst (Breaks at (b ∷ bs)) e (breaks at b bs)
-    by (Overflow place) e ih = subst (Breaks at (b ∷ bs)) e (breaks at b bs)
+    by (Err (Broken.Leftover place)) e ih = subst (Breaks at (b ∷ bs)) e (breaks at b bs)
+    by (Err (Broken.Overflow place)) e ih = subst (Breaks at (b ∷ bs)) e (breaks at b bs)
 
 -- ---- what stands behind plays no part: the first k bytes alone
 digits_take : (left k : ℕ) (l : List ℕ) (n len : ℕ) → digits_from left l ≡ num n len → len ≤ k → digits_from left (take k l) ≡ num n len
@@ -147,15 +147,15 @@ digits_take left (suc k) (b ∷ bs) n len e h = by (is_delim b) (eqb left 0) (lt
     by false false false (long j) ih w = zero_one cc
     by false false false (num n' len') ih w = let m : len' + 1 ≡ len = cc in rw (ih n' len' refl (omega (arith, m, h))) w
 
-value_take : (at k b : ℕ) (bs : List ℕ) (bits lost next : ℕ) → vlq_of at (b ∷ bs) ≡ Value bits lost next → next ≤ at + suc k
-    → vlq_of at (b ∷ take k bs) ≡ Value bits lost next
+value_take : (at k b : ℕ) (bs : List ℕ) (bits lost next : ℕ) → vlq_of at (b ∷ bs) ≡ Ok (Some (bits, lost, next)) → next ≤ at + suc k
+    → vlq_of at (b ∷ take k bs) ≡ Ok (Some (bits, lost, next))
 unfolding vlq_of
 value_take at k b bs bits lost next e h =
     let r = read at b bs bits lost next e in
     let q : digits_from 13 (b ∷ take k bs) ≡ num r.n r.len = digits_take 13 (suc k) (b ∷ bs) r.n r.len r.is (omega (arith, r.next_is, h)) in
-    ap (λ (d : Digits). pick (is_delim b) End (vlq_from at d)) (q ∙ sym r.is) ∙ e
+    ap (λ (d : Digits). pick (is_delim b) (Ok None) (vlq_from at d)) (q ∙ sym r.is) ∙ e
 
-end_take : (at k b : ℕ) (bs : List ℕ) → vlq_of at (b ∷ bs) ≡ End → vlq_of at (b ∷ take k bs) ≡ End
+end_take : (at k b : ℕ) (bs : List ℕ) → vlq_of at (b ∷ bs) ≡ Ok None → vlq_of at (b ∷ take k bs) ≡ Ok None
 unfolding vlq_of
 end_take at k b bs e = rw (end_delim at b bs e)
 
@@ -186,11 +186,11 @@ fields_take mode zero at zero (b ∷ bs) fs next e h = by (vlq_of at (b ∷ bs))
     more f next' r (overflow place) q w = zero_one cc
 
     by : (r : Vlq) → vlq_of at (b ∷ bs) ≡ r → field_then mode at r (λ next'. fields_from mode (next' - (at + 1)) (at + 1) bs) ≡ whole fs next → whole [] at ≡ whole fs next
-    by End q w = w
-    by (Value bits lost next') q w =
+    by (Ok None) q w = w
+    by (Ok (Some (bits, lost, next'))) q w =
         more (record { value = value_of mode bits lost; start = at }) next' (read at b bs bits lost next' q) (fields_from mode (next' - (at + 1)) (at + 1) bs) refl w
-    by (Leftover place) q w = zero_one cc
-    by (Overflow place) q w = zero_one cc
+    by (Err (Broken.Leftover place)) q w = zero_one cc
+    by (Err (Broken.Overflow place)) q w = zero_one cc
 fields_take mode zero at (suc k) (b ∷ bs) fs next e h = by (vlq_of at (b ∷ bs)) refl e (λ next'. fields_take mode (next' - (at + 1)) (at + 1) k bs)
   where
     go : ℕ → Fields
@@ -209,9 +209,9 @@ fields_take mode zero at (suc k) (b ∷ bs) fs next e h = by (vlq_of at (b ∷ b
     by : (r : Vlq) → vlq_of at (b ∷ bs) ≡ r → field_then mode at r (λ next'. fields_from mode (next' - (at + 1)) (at + 1) bs) ≡ whole fs next
         → ((next' : ℕ) (gs : List Field) (n : ℕ) → fields_from mode (next' - (at + 1)) (at + 1) bs ≡ whole gs n → n ≤ at + 1 + k → go next' ≡ whole gs n)
         → field_then mode at (vlq_of at (b ∷ take k bs)) go ≡ whole fs next
-    by End q w ih = rw (end_take at k b bs q) w
-    by (Value bits lost next') q w ih =
+    by (Ok None) q w ih = rw (end_take at k b bs q) w
+    by (Ok (Some (bits, lost, next'))) q w ih =
         let v = more (record { value = value_of mode bits lost; start = at }) next' (read at b bs bits lost next' q) (fields_from mode (next' - (at + 1)) (at + 1) bs) refl w (ih next') in
         rw (value_take at k b bs bits lost next' q v.0) v.1
-    by (Leftover place) q w ih = zero_one cc
-    by (Overflow place) q w ih = zero_one cc
+    by (Err (Broken.Leftover place)) q w ih = zero_one cc
+    by (Err (Broken.Overflow place)) q w ih = zero_one cc

@@ -1,18 +1,15 @@
 -- docs/RULES.md, Mappings: all values of a segment, up to a delimiter or the end. Assumes nothing.
-use Rattle.std.specs.Prelude.{ℕ, zero, suc, ◌+◌, ◌-◌, List, [], ◌∷◌, ◌++◌, length, take, drop, ℤ, pos, nat_lt}
+use Rattle.std.specs.Prelude.{ℕ, zero, suc, ◌+◌, ◌-◌, List, [], ◌∷◌, ◌++◌, length, take, drop, ℤ, pos, nat_lt, Option, Some, None, Result, Ok, Err}
 use Rattle.list.specs.Pick.{pick, both}
 use Rattle.value.specs.Value.{value_of, number_of, is_wide}
 use Rattle.value.specs.declared.Mode.{Mode}
-use Rattle.value.specs.declared.Judged.{Judged}
-use Rattle.vlq.specs.Vlq.{vlq_of}
-use Rattle.vlq.specs.declared.Vlq.{Vlq}
-use Rattle.vlq.specs.declared.Vlq.TheVariants.{End, Value, Leftover, Overflow}
-use Rattle.segment.specs.declared.Ending.{Ending}
+use Rattle.vlq.specs.Vlq.{vlq_of, Vlq}
 use Rattle.segment.specs.declared.Segment.{Segment}
+use Rattle.vlq.specs.declared.Broken.{Broken}
 
 -- a field: its value, and the place where it begins
 pub record Field : Type 0 where
-  pub value : Judged
+  pub value : Option ℤ
   pub start : ℕ
 
 -- the fields of a segment and the place after them, or the place where one broke
@@ -27,10 +24,10 @@ before f (leftover at) = leftover at
 before f (overflow at) = overflow at
 
 abbrev pub field_then : Mode → ℕ → Vlq → (ℕ → Fields) → Fields
-field_then mode at End go = whole [] at
-field_then mode at (Value bits lost next) go = before (record { value = value_of mode bits lost; start = at }) (go next)
-field_then mode at (Leftover place) go = leftover place
-field_then mode at (Overflow place) go = overflow place
+field_then mode at (Ok None) go = whole [] at
+field_then mode at (Ok (Some (bits, lost, next))) go = before (record { value = value_of mode bits lost; start = at }) (go next)
+field_then mode at (Err (Broken.Leftover place)) go = leftover place
+field_then mode at (Err (Broken.Overflow place)) go = overflow place
 
 -- the fields of the bytes past the first `skip`, which stand at the place `at`
 unfoldable pub fields_from : Mode → ℕ → ℕ → List ℕ → Fields
@@ -43,10 +40,10 @@ abbrev pub values : List Field → List ℤ
 values [] = []
 values (f ∷ fs) = number_of f.value ∷ values fs
 
--- the index of the first field that is too wide, where it is below 5, else 5; the first of these fields has the index i
-unfoldable pub wide_from : ℕ → List Field → ℕ
-wide_from i [] = 5
-wide_from i (f ∷ fs) = pick (both (is_wide f.value) (nat_lt i 5)) i (wide_from (i + 1) fs)
+-- the index of the first field that is too wide, where it is below 5; the first of these fields has the index i
+unfoldable pub wide_from : ℕ → List Field → Option ℕ
+wide_from i [] = None
+wide_from i (f ∷ fs) = pick (both (is_wide f.value) (nat_lt i 5)) (Some i) (wide_from (i + 1) fs)
 
 abbrev pub starts : List Field → List ℕ
 starts [] = []
@@ -55,17 +52,16 @@ starts (f ∷ fs) = f.start ∷ starts fs
 abbrev pub zeros : List ℤ
 zeros = pos 0 ∷ pos 0 ∷ pos 0 ∷ pos 0 ∷ pos 0 ∷ []
 
--- a segment of which a value broke
-abbrev pub broken_at : Ending → ℕ → Segment
-broken_at end at = record { end = end; nums = zeros; wide = 5; count = 0; next = at }
-
 -- the first five fields, 0 where there are fewer, the first of them that is too wide, and how many there are in truth
-abbrev pub segment_of : Fields → Segment
-segment_of (whole fs next) =
-    record { end = Ending.Whole; nums = take 5 (values fs ++ zeros); wide = wide_from 0 fs; count = length fs; next = next }
-segment_of (leftover at) = broken_at (Ending.Leftover at) at
-segment_of (overflow at) = broken_at (Ending.Overflow at) at
+abbrev pub gathered : List Field → ℕ → Segment
+gathered fs next = record { nums = take 5 (values fs ++ zeros); wide = wide_from 0 fs; count = length fs; next = next }
+
+-- a segment, or where a value of it broke
+abbrev pub segment_of : Fields → Result Segment Broken
+segment_of (whole fs next) = Ok (gathered fs next)
+segment_of (leftover at) = Err (Broken.Leftover at)
+segment_of (overflow at) = Err (Broken.Overflow at)
 
 -- the segment at a place of a text
-unfoldable pub segment_at : Mode → List ℕ → ℕ → Segment
+unfoldable pub segment_at : Mode → List ℕ → ℕ → Result Segment Broken
 segment_at mode text at = segment_of (fields_from mode 0 at (drop at text))

@@ -1,4 +1,5 @@
 -- What the tests of the short way show. Assumes nothing.
+use Rattle.std.specs.Prelude.{Some, Ok}
 use Rattle.std.proofs.Common.{◌≡◌, ℕ, ◌+◌, ◌-◌, ◌*◌, ◌/◌, ◌%◌, ◌^◌, ◌<◌, ◌≤◌, Bool, true, false, eqb, ltb, List, length, get_or, drop, sym, refl, ap, ◌∙◌, arith}
 use lib.Bits.{bit_or, or_add_and, and_le_l, and_le_r}
 use borrow.Author.Tests.{eqb-false}
@@ -8,7 +9,7 @@ use Rattle.digits.specs.Tables.{short_of, step_of, word}
 use Rattle.digits.proofs.Words as words
 use Rattle.digits.proofs.Shorts.{one}
 use Rattle.vlq.specs.Several.{FewAt}
-use Rattle.vlq.specs.declared.Vlq.TheVariants.{Value}
+use Rattle.vlq.specs.declared.Few.{Few}
 use Rattle.vlq.proofs.Steps.{one_digit}
 use Rattle.vlq.proofs.Values.{few_under}
 use Rattle.short.specs.declared.Shape.{Shape}
@@ -49,7 +50,7 @@ stands_one s p q e h eq u m =
     let o = one (get_or s p 0) (omega arith) in
     record {
       num = digit_of (get_or s p 0);
-      reads = one_digit s p h o.delim o.small ∙ ap (Value (digit_of (get_or s p 0)) 0) (sym eq);
+      reads = one_digit s p h o.delim o.small ∙ ap (λ (n : ℕ). Ok (Some (digit_of (get_or s p 0), 0, n))) (sym eq);
       small = omega (arith, o.small);
       plain = o.plain;
       moves = m ∙ o.is ∙ step_move (digit_of (get_or s p 0)) o.small;
@@ -77,7 +78,7 @@ module _ (s : List ℕ) (at : ℕ) (small : (i : ℕ) → get_or s i 0 < 256) (b
   second_fits =
       (omega (arith, w_is), omega (arith, w_is, f_small, small at, small (at + 2), small (at + 3)))
 
-  module _ (w' : ℕ) (ew' : w' ≡ w - 16640 + f * 256) (steps : ℕ) (rs : Reading w' steps) (some : 0 < steps) where
+  module _ (w' : ℕ) (ew' : w' ≡ w - 16640 + f * 256) (steps : ℕ) (rs : Reading w' steps) where
     four : Bytes 256 w'
     four =
         record {
@@ -94,7 +95,7 @@ module _ (s : List ℕ) (at : ℕ) (small : (i : ℕ) → get_or s i 0 < 256) (b
 
     r : Read (get_or s at 0) f (get_or s (at + 2) 0) (get_or s (at + 3) 0) steps
     unfolding four
-    r = rs four some
+    r = rs four
 
     first_step : steps % 256 ≡ short_of (get_or s at 0)
     first_step = ap (λ (n : ℕ). n % 256) r.is ∙ words.first (short_of (get_or s at 0)) (short_of f) _ _ (omega (arith, r.one_a))
@@ -145,7 +146,7 @@ module _ (s : List ℕ) (at : ℕ) (small : (i : ℕ) → get_or s i 0 < 256) (b
 
 -- the fourth byte is `A` instead
 module _ (s : List ℕ) (at : ℕ) (small : (i : ℕ) → get_or s i 0 < 256) (h : at + 12 ≤ length s) (second : get_or s (at + 1) 0 ≡ 65)
-    (w : ℕ) (ew : w ≡ word (get_or s at 0) (get_or s (at + 1) 0) (get_or s (at + 2) 0) (get_or s (at + 3) 0)) (steps : ℕ) (rs : Reading (w % 16777216 + 1090519040) steps) (some : 0 < steps) where
+    (w : ℕ) (ew : w ≡ word (get_or s at 0) (get_or s (at + 1) 0) (get_or s (at + 2) 0) (get_or s (at + 3) 0)) (steps : ℕ) (rs : Reading (w % 16777216 + 1090519040) steps) where
   with_a : Bytes 256 (w % 16777216 + 1090519040)
   with_a =
       record {
@@ -162,7 +163,7 @@ module _ (s : List ℕ) (at : ℕ) (small : (i : ℕ) → get_or s i 0 < 256) (h
 
   r_a : Read (get_or s at 0) 65 (get_or s (at + 2) 0) 65 steps
   unfolding with_a
-  r_a = rs with_a some
+  r_a = rs with_a
 
   pub few_three : Three s at steps
   few_three =
@@ -172,40 +173,40 @@ module _ (s : List ℕ) (at : ℕ) (small : (i : ℕ) → get_or s i 0 < 256) (h
       ∙ words.third (short_of (get_or s at 0)) (short_of 65) (short_of (get_or s (at + 2) 0)) _ (omega (arith, r_a.one_a)) (omega (arith, r_a.one_b)) (omega (arith, r_a.one_c)))
 
 -- a number of few digits
-stands_few : (s : List ℕ) (p bits count e : ℕ) → count ≤ 4 → FewAt s p bits count → 0 < count → (bits ≡ 1 → ⊥) → e ≡ move_of bits → Stands s p (p + count) e
-stands_few s p bits count e few at some plain m =
+stands_few : (s : List ℕ) (p : ℕ) (f : Few) (e : ℕ) → FewAt s p f → (f.bits ≡ 1 → ⊥) → e ≡ move_of f.bits → Stands s p (p + f.count) e
+stands_few s p f e few plain m =
     record {
-      num = bits;
-      reads = at some;
-      small = omega (arith, few_under p (drop p s) bits count (at some) few);
+      num = f.bits;
+      reads = few.reads;
+      small = omega (arith, few_under p (drop p s) f.bits f.count few.reads few.short);
       plain = plain;
       moves = m;
     }
 
 module _ (s : List ℕ) (at steps : ℕ) (h : at + 12 ≤ length s) (three : Three s at steps)
-    (bits count : ℕ) (few : (count ≤ 4) × FewAt s (at + 3) bits count) (some : 0 < count) (plain : bits ≡ 1 → ⊥) (col : ℕ) (ec : col ≡ move_of bits) where
-  pub few_four : is_delim (get_or s (at + 3 + count) 0) ≡ true → Shaped s at (shape 4 (3 + count) steps col 16)
+    (f : Few) (few : FewAt s (at + 3) f) (plain : f.bits ≡ 1 → ⊥) (col : ℕ) (ec : col ≡ move_of f.bits) where
+  pub few_four : is_delim (get_or s (at + 3 + f.count) 0) ≡ true → Shaped s at (shape 4 (3 + f.count) steps col 16)
   few_four d =
-      let q : at + (3 + count) ≡ at + 3 + count = omega arith in
+      let q : at + (3 + f.count) ≡ at + 3 + f.count = omega arith in
       record {
         three = three;
-        place = at + 3 + count;
-        fourth = stands_few s (at + 3) bits count col few.0 few.1 some plain ec;
+        place = at + 3 + f.count;
+        fourth = stands_few s (at + 3) f col few plain ec;
         rest = Rest.four refl (omega arith) refl;
-        within = omega (arith, few.0);
+        within = omega (arith, few.short);
         delim = ap (λ (n : ℕ). is_delim (get_or s n 0)) q ∙ d;
       }
 
-  pub few_five : (bits' count' : ℕ) → (count' ≤ 4) × FewAt s (at + 3 + count) bits' count' → 0 < count' → (bits' ≡ 1 → ⊥)
-      → (name : ℕ) → name ≡ move_of bits' → is_delim (get_or s (at + 3 + count + count') 0) ≡ true → Shaped s at (shape 5 (3 + count + count') steps col name)
-  few_five bits' count' few' some' plain' name en d =
-      let q : at + (3 + count + count') ≡ at + 3 + count + count' = omega arith in
+  pub few_five : (g : Few) → FewAt s (at + 3 + f.count) g → (g.bits ≡ 1 → ⊥)
+      → (name : ℕ) → name ≡ move_of g.bits → is_delim (get_or s (at + 3 + f.count + g.count) 0) ≡ true → Shaped s at (shape 5 (3 + f.count + g.count) steps col name)
+  few_five g few' plain' name en d =
+      let q : at + (3 + f.count + g.count) ≡ at + 3 + f.count + g.count = omega arith in
       record {
         three = three;
-        place = at + 3 + count;
-        fourth = stands_few s (at + 3) bits count col few.0 few.1 some plain ec;
-        rest = Rest.five refl (rw q (stands_few s (at + 3 + count) bits' count' name few'.0 few'.1 some' plain' en));
-        within = omega (arith, few.0, few'.0);
+        place = at + 3 + f.count;
+        fourth = stands_few s (at + 3) f col few plain ec;
+        rest = Rest.five refl (rw q (stands_few s (at + 3 + f.count) g name few' plain' en));
+        within = omega (arith, few.short, few'.short);
         delim = ap (λ (n : ℕ). is_delim (get_or s n 0)) q ∙ d;
       }
 
@@ -239,6 +240,3 @@ module _ (n : Near) (k sources names cap : ℕ) (ec : cap ≡ pick (eqb k 5) nam
         name = omega (arith, name, c.0);
         named = λ h. omega (arith, name, c.1 h);
       }
-
-pub unshaped : (s : List ℕ) (at : ℕ) (r : Shape) → r.fields ≡ 0 → 0 < r.fields → Shaped s at r
-unshaped s at r e h = absurd (omega arith)

@@ -1,12 +1,11 @@
 -- Helpers: what inner contracts and proofs need; no contract of an entry and no theorem reaches this file.
 -- What the short way tests and makes: a segment of four or five values of few digits each. It decides nothing by itself: that it
 -- agrees with the general way wherever it is taken is proved. Assumes nothing.
-use Rattle.std.specs.Prelude.{◌≡◌, ℕ, ◌+◌, ◌-◌, ◌/◌, ◌%◌, ◌^◌, ◌<◌, true, List, length, ◌==◌, slice_index}
+use Rattle.std.specs.Prelude.{◌≡◌, ℕ, ◌+◌, ◌-◌, ◌/◌, ◌%◌, ◌^◌, ◌<◌, true, List, length, ◌==◌, slice_index, Some, Ok}
 use Rattle.list.specs.Pick.{pick}
 use Rattle.digits.specs.Digits.{digit_of, is_delim}
 use Rattle.digits.specs.Tables.{short_of, step_of, word}
 use Rattle.vlq.specs.Vlq.{vlq_at}
-use Rattle.vlq.specs.declared.Vlq.TheVariants.{Value}
 use Rattle.apply.specs.declared.State.{State}
 use Rattle.short.specs.declared.Near.{Near}
 use Rattle.short.specs.declared.Shape.{Shape}
@@ -44,9 +43,9 @@ pub record Read (a b c d r : ℕ) : Type 0 where
 abbrev pub Stepping : ℕ → ℕ → Type 0
 Stepping d r = (x : Bytes 32 d) → r ≡ word (step_of x.a) (step_of x.b) (step_of x.c) (step_of x.d)
 
--- r, where it is not 0, has the steps of the four bytes of w
+-- r has the steps of the four bytes of w
 abbrev pub Reading : ℕ → ℕ → Type 0
-Reading w r = (x : Bytes 256 w) → 0 < r → Read x.a x.b x.c x.d r
+Reading w r = (x : Bytes 256 w) → Read x.a x.b x.c x.d r
 
 -- 16 more than the value of a number, modulo 2^64
 unfoldable pub move_of : ℕ → ℕ
@@ -55,7 +54,7 @@ move_of n = pick (n % 2 == 1) ((2 ^ 64 + 16 - n / 2) % 2 ^ 64) (16 + n / 2)
 -- a number below 2^32 that is not minus zero stands from p up to q; e is 16 more than its value
 pub record Stands (s : List ℕ) (p q e : ℕ) : Type 0 where
   pub num : ℕ
-  pub reads : vlq_at s p ≡ Value num 0 q
+  pub reads : vlq_at s p ≡ Ok (Some (num, 0, q))
   pub small : num < 2 ^ 32
   pub plain : num ≡ 1 → ⊥
   pub moves : e ≡ move_of num

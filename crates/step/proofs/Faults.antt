@@ -1,5 +1,6 @@
 -- Where a step lies: past delimiters a segment begins, and a fault of it lies in it or right behind it. And what stands behind a
 -- segment plays no part in its step. Assumes nothing.
+use Rattle.std.specs.Prelude.{Some, None, Ok, Err}
 use mathlib.Core.Path.{◌≡◌, refl, sym, ◌∙◌, ap, subst}
 use mathlib.Core.Bool.{Bool, true, false}
 use mathlib.Core.List.{List, [], ◌∷◌}
@@ -11,18 +12,16 @@ use Rattle.list.specs.Pick.{pick}
 use Rattle.digits.specs.Digits.{is_delim}
 use Rattle.token.specs.declared.Token.{Token}
 use Rattle.value.specs.declared.Mode.{Mode}
-use Rattle.segment.specs.Segment.{Field, Fields, whole, leftover, overflow, starts, segment_of, fields_from}
+use Rattle.segment.specs.Segment.{Field, Fields, whole, leftover, overflow, starts, segment_of, fields_from, gathered}
 use Rattle.segment.proofs.Border.{Border, Ends, ends}
 use Rattle.segment.proofs.Within.{Each, Clear, Between, Lies, lies, fewer_clear, fields_take}
-use Rattle.apply.specs.Apply.{applied}
+use Rattle.apply.specs.Apply.{applied, refusal, Applied}
 use Rattle.apply.specs.declared.State.{State}
 use Rattle.apply.specs.declared.About.{About}
-use Rattle.apply.specs.declared.Applied.{Applied}
 use Rattle.apply.proofs.Lands.{Lands, lands}
 use Rattle.apply.proofs.Points.{Pointed, Points, points}
 use Rattle.segment.proofs.TooWide.{wide_has}
-use Rattle.step.specs.declared.Step.{Step}
-use Rattle.step.specs.Step.{commaed, lined, offset_of, stepped, segment_step, step_from}
+use Rattle.step.specs.Step.{commaed, lined, offset_of, stepped, segment_step, step_from, refused, Step}
 
 zero_one : {A : Type 0} → ◌≡◌ {A = ℕ} 0 1 → A
 zero_one z = absurd (omega arith)
@@ -62,18 +61,18 @@ yes_no e = absurd (subst T e tt)
 module _ (mode : Mode) (sources names : ℕ) where
   -- ---- where it lies
   abbrev pub Lying : State → List ℕ → Step → Type 0
-  Lying s bs (Step.Put t begin s') = Fault s.at bs begin s'.at
-  Lying s bs (Step.Refuse code offset) = (begin : ℕ) × Fault s.at bs begin offset
-  Lying s bs Step.Done = Unit {0}
+  Lying s bs (Ok (Some (t, begin, s'))) = Fault s.at bs begin s'.at
+  Lying s bs (Err r) = (begin : ℕ) × Fault s.at bs begin r.offset
+  Lying s bs (Ok None) = Unit {0}
 
   fault_later : (at b : ℕ) (bs : List ℕ) (begin offset : ℕ) → is_delim b ≡ true → Fault (at + 1) bs begin offset → Fault at (b ∷ bs) begin offset
   fault_later at b bs begin offset d f =
       record { skip = suc f.skip; begin_is = omega (arith, f.begin_is); delims = (d, f.delims); opens = f.opens; from = f.from; clear = f.clear }
 
   later : (s s₁ : State) (b : ℕ) (bs : List ℕ) (r : Step) → s₁.at ≡ s.at + 1 → is_delim b ≡ true → Lying s₁ bs r → Lying s (b ∷ bs) r
-  later s s₁ b bs (Step.Put t begin s') e d h = fault_later s.at b bs begin s'.at d (rw (← e) h)
-  later s s₁ b bs (Step.Refuse code offset) e d h = (h.0, fault_later s.at b bs h.0 offset d (rw (← e) h.1))
-  later s s₁ b bs Step.Done e d h = tt
+  later s s₁ b bs (Ok (Some (t, begin, s'))) e d h = fault_later s.at b bs begin s'.at d (rw (← e) h)
+  later s s₁ b bs (Err r) e d h = (h.0, fault_later s.at b bs h.0 r.offset d (rw (← e) h.1))
+  later s s₁ b bs (Ok None) e d h = tt
 
   here : (at b : ℕ) (bs : List ℕ) (offset : ℕ) → is_delim b ≡ false → at ≤ offset → Clear (offset - at) (b ∷ bs) → Fault at (b ∷ bs) at offset
   here at b bs offset d l h = record { skip = 0; begin_is = omega arith; delims = tt; opens = (d, tt); from = l; clear = h }
@@ -83,14 +82,14 @@ module _ (mode : Mode) (sources names : ℕ) where
   segment_lies s b bs d (leftover place) h = (s.at, here s.at b bs place d h.0 h.1)
   segment_lies s b bs d (overflow place) h = (s.at, here s.at b bs place d h.0 h.1)
   segment_lies s b bs d (whole fs next) h =
-      by (applied mode sources names s (segment_of (whole fs next))) (points mode sources names (segment_of (whole fs next)) (λ l. omega (arith, wide_has fs 0 l)) s)
-      (lands mode sources names (segment_of (whole fs next)) s)
+      by (applied mode sources names s (gathered fs next)) (points mode sources names (gathered fs next) (λ m e. omega (arith, (wide_has fs 0 m e).1)) s)
+      (lands mode sources names (gathered fs next) s)
     where
       by : (a : Applied) → Points (length fs) a → Lands next a → Lying s (b ∷ bs) (stepped s.at (starts fs) a)
-      by (Applied.Took t s') p l = rw l (here s.at b bs next d h.0 h.1.0)
-      by (Applied.Refused code about) p l =
-          let w = place_between s.at next (length fs) fs about h.0 h.1.1 p in
-          (s.at, here s.at b bs (offset_of s.at (starts fs) about) d w.0 (fewer_clear (offset_of s.at (starts fs) about - s.at) (next - s.at) (b ∷ bs) (omega (arith, w.0, w.1)) h.1.0))
+      by (Ok (t, s')) p l = rw l (here s.at b bs next d h.0 h.1.0)
+      by (Err r) p l =
+          let w = place_between s.at next (length fs) fs r.about h.0 h.1.1 p in
+          (s.at, here s.at b bs (offset_of s.at (starts fs) r.about) d w.0 (fewer_clear (offset_of s.at (starts fs) r.about - s.at) (next - s.at) (b ∷ bs) (omega (arith, w.0, w.1)) h.1.0))
 
   pub lying : (s : State) (bs : List ℕ) → Lying s bs (step_from mode sources names s bs)
   unfolding step_from is_delim
@@ -108,30 +107,30 @@ module _ (mode : Mode) (sources names : ℕ) where
       by false false p q u v = segment_lies s b bs (rw (p, q)) (fields_from mode 0 s.at (b ∷ bs)) (lies mode 0 s.at (b ∷ bs) tt)
 
   -- ---- the first k bytes alone: only delimiters
-  pub nothing_before : (k : ℕ) (s : State) (bs : List ℕ) → Each true k bs → step_from mode sources names s (take k bs) ≡ Step.Done
+  pub nothing_before : (k : ℕ) (s : State) (bs : List ℕ) → Each true k bs → step_from mode sources names s (take k bs) ≡ Ok None
   unfolding step_from is_delim
   nothing_before zero s [] h = refl
   nothing_before zero s (b ∷ bs) h = refl
   nothing_before (suc k) s [] h = absurd h
   nothing_before (suc k) s (b ∷ bs) h = by (eqb b 44) (eqb b 59) h.0 (nothing_before k (commaed s) bs h.1) (nothing_before k (lined s) bs h.1)
     where
-      by : (x y : Bool) → pick x true y ≡ true → step_from mode sources names (commaed s) (take k bs) ≡ Step.Done → step_from mode sources names (lined s) (take k bs) ≡ Step.Done
+      by : (x y : Bool) → pick x true y ≡ true → step_from mode sources names (commaed s) (take k bs) ≡ Ok None → step_from mode sources names (lined s) (take k bs) ≡ Ok None
           → pick x (step_from mode sources names (commaed s) (take k bs))
           (pick y (step_from mode sources names (lined s) (take k bs)) (segment_step mode sources names s (fields_from mode 0 s.at (b ∷ take k bs))))
-          ≡ Step.Done
+          ≡ Ok None
       by true y e u v = u
       by false true e u v = v
       by false false e u v = yes_no (sym e)
 
   -- a segment that ends within them
   segment_take : (s : State) (k b : ℕ) (bs : List ℕ) → is_delim b ≡ false → (f : Fields) → fields_from mode 0 s.at (b ∷ bs) ≡ f
-      → (t : Token) (begin : ℕ) (s' : State) → segment_step mode sources names s f ≡ Step.Put t begin s' → s'.at ≤ s.at + k
+      → (t : Token) (begin : ℕ) (s' : State) → segment_step mode sources names s f ≡ Ok (Some (t, begin, s')) → s'.at ≤ s.at + k
       → (s.at < s'.at) × (fields_from mode 0 s.at (take k (b ∷ bs)) ≡ f)
   unfolding segment_step
   segment_take s k b bs d (leftover place) e t begin s' w l = zero_one cc
   segment_take s k b bs d (overflow place) e t begin s' w l = zero_one cc
   segment_take s k b bs d (whole fs next) e t begin s' w l =
-      by (applied mode sources names s (segment_of (whole fs next))) (lands mode sources names (segment_of (whole fs next)) s) w
+      by (applied mode sources names s (gathered fs next)) (lands mode sources names (gathered fs next) s) w
     where
       border : Ends s.at (b ∷ bs) (whole fs next)
       border = subst (Ends s.at (b ∷ bs)) e (ends mode 0 s.at (b ∷ bs))
@@ -140,30 +139,31 @@ module _ (mode : Mode) (sources names : ℕ) where
       past zero q h = yes_no (sym h ∙ d)
       past (suc j) q h = omega (arith, q)
 
-      by : (a : Applied) → Lands next a → stepped s.at (starts fs) a ≡ Step.Put t begin s'
+      by : (a : Applied) → Lands next a → stepped s.at (starts fs) a ≡ Ok (Some (t, begin, s'))
           → (s.at < s'.at) × (fields_from mode 0 s.at (take k (b ∷ bs)) ≡ whole fs next)
-      by (Applied.Took t₁ s₁) n q =
-          let x : s₁ ≡ s' = cc in
+      by (Ok (t₁, s₁)) n q =
+          let q' : ◌≡◌ {A = Token × ℕ × State} (t₁, s.at, s₁) (t, begin, s') = cc in
+          let x : s₁ ≡ s' = ap (λ (w : Token × ℕ × State). w.2) q' in
           let m : next ≡ s'.at = sym n ∙ ap (λ (y : State). y.at) x in
           (rw (← m) (past (next - s.at) refl border.1), fields_take mode 0 s.at k (b ∷ bs) fs next e (omega (arith, m, l)))
-      by (Applied.Refused code about) n q = zero_one cc
+      by (Err r) n q = zero_one cc
 
-  pub put_take : (k : ℕ) (s : State) (bs : List ℕ) (t : Token) (begin : ℕ) (s' : State) → step_from mode sources names s bs ≡ Step.Put t begin s' → s'.at ≤ s.at + k
-      → (s.at < s'.at) × (step_from mode sources names s (take k bs) ≡ Step.Put t begin s')
+  pub put_take : (k : ℕ) (s : State) (bs : List ℕ) (t : Token) (begin : ℕ) (s' : State) → step_from mode sources names s bs ≡ Ok (Some (t, begin, s')) → s'.at ≤ s.at + k
+      → (s.at < s'.at) × (step_from mode sources names s (take k bs) ≡ Ok (Some (t, begin, s')))
   unfolding step_from is_delim
   put_take k s [] t begin s' e l = zero_one cc
   put_take k s (b ∷ bs) t begin s' e l =
       by k l (eqb b 44) (eqb b 59) refl refl (λ j. put_take j (commaed s) bs t begin s') (λ j. put_take j (lined s) bs t begin s') e
     where
       by : (k : ℕ) → s'.at ≤ s.at + k → (x y : Bool) → eqb b 44 ≡ x → eqb b 59 ≡ y
-          → ((j : ℕ) → step_from mode sources names (commaed s) bs ≡ Step.Put t begin s' → s'.at ≤ s.at + 1 + j
-          → (s.at + 1 < s'.at) × (step_from mode sources names (commaed s) (take j bs) ≡ Step.Put t begin s'))
-          → ((j : ℕ) → step_from mode sources names (lined s) bs ≡ Step.Put t begin s' → s'.at ≤ s.at + 1 + j
-          → (s.at + 1 < s'.at) × (step_from mode sources names (lined s) (take j bs) ≡ Step.Put t begin s'))
+          → ((j : ℕ) → step_from mode sources names (commaed s) bs ≡ Ok (Some (t, begin, s')) → s'.at ≤ s.at + 1 + j
+          → (s.at + 1 < s'.at) × (step_from mode sources names (commaed s) (take j bs) ≡ Ok (Some (t, begin, s'))))
+          → ((j : ℕ) → step_from mode sources names (lined s) bs ≡ Ok (Some (t, begin, s')) → s'.at ≤ s.at + 1 + j
+          → (s.at + 1 < s'.at) × (step_from mode sources names (lined s) (take j bs) ≡ Ok (Some (t, begin, s'))))
           → pick x (step_from mode sources names (commaed s) bs)
           (pick y (step_from mode sources names (lined s) bs) (segment_step mode sources names s (fields_from mode 0 s.at (b ∷ bs))))
-          ≡ Step.Put t begin s'
-          → (s.at < s'.at) × (step_from mode sources names s (take k (b ∷ bs)) ≡ Step.Put t begin s')
+          ≡ Ok (Some (t, begin, s'))
+          → (s.at < s'.at) × (step_from mode sources names s (take k (b ∷ bs)) ≡ Ok (Some (t, begin, s')))
       by zero l true y p q u v w = absurd (omega (arith, (u 0 w (omega arith)).0, l))
       by zero l false true p q u v w = absurd (omega (arith, (v 0 w (omega arith)).0, l))
       by zero l false false p q u v w =

@@ -1,4 +1,5 @@
 -- A segment in general, and the loop over delimiters, on the definitions alone. Assumes nothing.
+use Rattle.std.specs.Prelude.{None, Ok, Err}
 use mathlib.Core.Path.{◌≡◌, refl, sym, ◌∙◌, ap, subst}
 use mathlib.Core.Bool.{Bool, true, false}
 use mathlib.Core.List.{List, [], ◌∷◌}
@@ -13,22 +14,19 @@ use Rattle.list.specs.Pick.{pick}
 use Rattle.code.specs.declared.Code.{Code}
 use Rattle.digits.specs.Digits.{is_delim}
 use Rattle.value.specs.declared.Mode.{Mode}
-use Rattle.segment.specs.Segment.{Field, Fields, whole, leftover, overflow, starts, fields_from, segment_of, segment_at}
+use Rattle.segment.specs.Segment.{Field, Fields, whole, leftover, overflow, starts, fields_from, segment_of, segment_at, gathered}
 use Rattle.segment.specs.Fields.{place_from}
-use Rattle.segment.specs.declared.Ending.{Ending}
 use Rattle.segment.specs.declared.Segment.{Segment}
 use Rattle.segment.proofs.Range.{nums_small}
 use Rattle.segment.proofs.Places.{own}
-use Rattle.apply.specs.Apply.{applied}
+use Rattle.apply.specs.Apply.{applied, refusal, Applied}
 use Rattle.apply.specs.Small.{Small}
 use Rattle.apply.specs.declared.State.{State}
 use Rattle.apply.specs.declared.About.{About}
-use Rattle.apply.specs.declared.Applied.{Applied}
 use Rattle.apply.proofs.Points.{Pointed, Points, points}
 use Rattle.segment.proofs.TooWide.{wide_has}
-use Rattle.step.specs.declared.Step.{Step}
-use Rattle.step.specs.Step.{commaed, lined, offset_of, stepped, segment_step, step_from, step_at}
-use Rattle.step.specs.Ways.{told, segmented_at, offset_in, stepped_in, Passed}
+use Rattle.step.specs.Step.{commaed, lined, offset_of, stepped, segment_step, step_from, step_at, refused, Step}
+use Rattle.step.specs.Ways.{told, segmented_at, offset_in, stepped_in, taken, taken_at, Passed}
 
 -- ---- where the fault of a whole segment lies: the place that is looked for is the field's own
 module _ (mode : Mode) (text : List ℕ) (begin next : ℕ) (fs : List Field) (e : fields_from mode 0 begin (drop begin text) ≡ whole fs next) where
@@ -45,63 +43,29 @@ module _ (mode : Mode) (text : List ℕ) (begin next : ℕ) (fs : List Field) (e
   place_is (About.Place place) p = absurd p
 
   pub step_is : (a : Applied) → Points (length fs) a → stepped_in text begin a ≡ stepped begin (starts fs) a
-  step_is (Applied.Took t s) p = refl
-  step_is (Applied.Refused code about) p = ap (Step.Refuse code) (place_is about p)
+  step_is (Ok (t, s)) p = refl
+  step_is (Err r) p = ap (λ (o : ℕ). Err (refused r.code o)) (place_is r.about p)
 
--- ---- the fields of a segment that ended so
 zero_one : {A : Type 0} → ◌≡◌ {A = ℕ} 0 1 → A
 zero_one z = absurd (omega arith)
 
-was_leftover : (f : Fields) (place : ℕ) → (segment_of f).end ≡ Ending.Leftover place → f ≡ leftover place
-was_leftover (whole fs next) place e = zero_one cc
-was_leftover (leftover p) place e = ap leftover (cc)
-was_leftover (overflow p) place e = zero_one cc
+-- ---- a segment: read and taken, it is the definition's
+pub small : (mode : Mode) (text : List ℕ) (st : State) (g : Segment) → segment_at mode text st.at ≡ Ok g → Small g
+small mode text st g e = record { small = nums_small mode text st.at g e }
 
-was_overflow : (f : Fields) (place : ℕ) → (segment_of f).end ≡ Ending.Overflow place → f ≡ overflow place
-was_overflow (whole fs next) place e = zero_one cc
-was_overflow (leftover p) place e = zero_one cc
-was_overflow (overflow p) place e = ap overflow (cc)
+module _ (mode : Mode) (sources names : ℕ) (text : List ℕ) (st : State) where
+  by_fields : (f : Fields) → fields_from mode 0 st.at (drop st.at text) ≡ f
+      → stepped_in text st.at (taken mode sources names st (segment_of f)) ≡ segment_step mode sources names st f
+  unfolding segment_step offset_of
+  by_fields (whole fs next) q =
+      step_is mode text st.at next fs q (applied mode sources names st (gathered fs next))
+      (points mode sources names (gathered fs next) (λ m e. omega (arith, (wide_has fs 0 m e).1)) st)
+  by_fields (leftover place) q = refl
+  by_fields (overflow place) q = refl
 
--- ---- a segment: g is what the segment reader gave
-module _ (mode : Mode) (sources names : ℕ) (text : List ℕ) (st : State) (g : Segment) (e : g ≡ segment_at mode text st.at) where
-  pub small : Small g
-  small = record { small = λ i. rw e (nums_small mode text st.at i) }
-
-  fields : Fields
-  fields = fields_from mode 0 st.at (drop st.at text)
-
-  ended : g.end ≡ (segment_of fields).end
-  unfolding segment_at fields
-  ended = ap (λ (x : Segment). x.end) e
-
-  is_fields : (f : Fields) → fields ≡ f → segmented_at mode sources names text st ≡ segment_step mode sources names st f
-  unfolding fields
-  is_fields f q = ap (segment_step mode sources names st) q
-
-  pub general_whole : g.end ≡ Ending.Whole → (a : Applied) → a ≡ applied mode sources names st g → (r : Step) → r ≡ told (stepped_in text st.at a)
-      → r ≡ told (segmented_at mode sources names text st)
-  unfolding segment_step segment_at fields
-  general_whole w a ea r er = by fields refl (sym ended ∙ w)
-    where
-      by : (f : Fields) → fields ≡ f → (segment_of f).end ≡ Ending.Whole → r ≡ told (segmented_at mode sources names text st)
-      by (whole fs next) q v =
-          er
-          ∙ ap told
-          (ap (stepped_in text st.at) (ea ∙ ap (applied mode sources names st) (e ∙ ap segment_of q))
-          ∙ step_is mode text st.at next fs q (applied mode sources names st (segment_of (whole fs next))) (points mode sources names (segment_of (whole fs next)) (λ l. omega (arith, wide_has fs 0 l)) st)
-          ∙ sym (is_fields (whole fs next) q))
-      by (leftover place) q v = zero_one cc
-      by (overflow place) q v = zero_one cc
-
-  pub general_leftover : (place : ℕ) → g.end ≡ Ending.Leftover place → (o : ℕ) → o ≡ offset_in text st.at (About.Place place)
-      → Step.Refuse Code.VlqLeftover o ≡ told (segmented_at mode sources names text st)
-  unfolding segment_step offset_of fields
-  general_leftover place w o eo = rw (was_leftover fields place (sym ended ∙ w), eo)
-
-  pub general_overflow : (place : ℕ) → g.end ≡ Ending.Overflow place → (o : ℕ) → o ≡ offset_in text st.at (About.Place place)
-      → Step.Refuse Code.VlqOverflow o ≡ told (segmented_at mode sources names text st)
-  unfolding segment_step offset_of fields
-  general_overflow place w o eo = rw (was_overflow fields place (sym ended ∙ w), eo)
+  pub general : told (stepped_in text st.at (taken_at mode sources names text st)) ≡ told (segmented_at mode sources names text st)
+  unfolding segment_at
+  general = ap told (by_fields (fields_from mode 0 st.at (drop st.at text)) refl)
 
 -- ---- the two delimiters
 yes_no : false ≡ true → ⊥
@@ -130,7 +94,7 @@ pub record Coming (text : List ℕ) (from st : State) : Type 0 where
 pub begins : (text : List ℕ) (from : State) → Coming text from from
 begins text from = record { is = λ mode sources names. refl }
 
-pub over : (mode : Mode) (sources names : ℕ) (text : List ℕ) (st : State) → length text ≤ st.at → Step.Done ≡ told (step_at mode sources names text st)
+pub over : (mode : Mode) (sources names : ℕ) (text : List ℕ) (st : State) → length text ≤ st.at → Ok None ≡ told (step_at mode sources names text st)
 unfolding step_from
 over mode sources names text st h = sym (rw (drop_of_length-le text h))
 

@@ -1,4 +1,5 @@
 -- The short way and the general way agree wherever the short way is taken. Assumes nothing.
+use Rattle.std.specs.Prelude.{Some, None, Ok}
 use mathlib.Core.Path.{◌≡◌, refl, sym, ◌∙◌, ap}
 use mathlib.Core.Bool.{true, false}
 use mathlib.Core.List.{List, [], ◌∷◌}
@@ -9,15 +10,13 @@ use Rattle.digits.specs.Digits.{is_delim}
 use Rattle.value.specs.Value.{value_of, is_wide}
 use Rattle.value.specs.declared.Mode.{Mode}
 use Rattle.value.proofs.Standard.{value_plain}
-use Rattle.vlq.specs.declared.Vlq.TheVariants.{End, Value}
 use Rattle.vlq.proofs.Steps.{at_delim}
 use Rattle.vlq.proofs.Values as values
-use Rattle.segment.specs.Segment.{Field, whole, before, fields_from, wide_from, segment_of, segment_at}
+use Rattle.segment.specs.Segment.{Field, whole, before, fields_from, wide_from, segment_of, segment_at, gathered}
 use Rattle.segment.proofs.Reach.{answered, past}
 use Rattle.token.specs.Table.{no_id}
 use Rattle.apply.specs.Apply.{state, shown, applied}
 use Rattle.apply.specs.declared.State.{State}
-use Rattle.apply.specs.declared.Applied.{Applied}
 use Rattle.apply.proofs.Takes.{takes_four, takes_five}
 use Rattle.short.specs.Short.{Stands, Rest, Shaped, Nears, Fit}
 use Rattle.short.specs.declared.Near.{Near}
@@ -36,11 +35,11 @@ module _ (mode : Mode) (text : List ℕ) where
   read : (p q e : ℕ) (v : Stands text p q e) → fields_from mode 0 p (drop p text) ≡ before (field p v.num) (fields_from mode 0 q (drop q text))
   read p q e v =
       let r = values.value text p v.num 0 q v.reads in
-      answered mode text p (Value v.num 0 q) v.reads
+      answered mode text p (Ok (Some (v.num, 0, q))) v.reads
       ∙ ap (before (field p v.num)) (past mode text p q r.past r.within)
 
   read_end : (p : ℕ) → p < length text → is_delim (get_or text p 0) ≡ true → fields_from mode 0 p (drop p text) ≡ whole [] p
-  read_end p h e = answered mode text p End (at_delim text p h e)
+  read_end p h e = answered mode text p (Ok None) (at_delim text p h e)
 
   -- the running numbers n come from the fields of the shape
   module _ (sources names : ℕ) (st : State) (r : Shape) (s : Shaped text st.at r) (n : Near) (ns : Nears r st n)
@@ -65,21 +64,19 @@ module _ (mode : Mode) (text : List ℕ) where
     ended : fields_from mode 0 (st.at + r.len) (drop (st.at + r.len) text) ≡ whole [] (st.at + r.len)
     ended = read_end (st.at + r.len) s.within s.delim
 
-    wide : (fs : List Field) → wide_from 4 fs ≡ 5 → wide_from 0 (listed fs) ≡ 5
+    wide : (fs : List Field) → wide_from 4 fs ≡ None → wide_from 0 (listed fs) ≡ None
     unfolding wide_from
     wide fs e =
         rw (narrow st.at (st.at + 1) (r.steps % 256) s.three.first, narrow (st.at + 1) (st.at + 2) 16 s.three.second, narrow (st.at + 2) (st.at + 3) (r.steps / 65536 % 256) s.three.third, narrow (st.at + 3) s.place r.col s.fourth) e
 
     module _ (k : r.fields ≡ 4) (p : s.place ≡ st.at + r.len) (z : r.name ≡ 16) where
-      none_wide : wide_from 4 [] ≡ 5
+      none_wide : wide_from 4 [] ≡ None
       unfolding wide_from
       none_wide = refl
 
-      taken_four : applied mode sources names st (segment_of (whole (listed []) (st.at + r.len))) ≡ Applied.Took
-          (shown (state st.dst_line n.dst_col n.src_line n.src_col n.source_id st.name_id (st.at + r.len)) n.source_id no_id)
-          (state st.dst_line n.dst_col n.src_line n.src_col n.source_id st.name_id (st.at + r.len))
+      taken_four : applied mode sources names st (gathered (listed []) (st.at + r.len)) ≡ Ok (shown (state st.dst_line n.dst_col n.src_line n.src_col n.source_id st.name_id (st.at + r.len)) n.source_id no_id, state st.dst_line n.dst_col n.src_line n.src_col n.source_id st.name_id (st.at + r.len))
       taken_four =
-          takes_four mode sources names st (segment_of (whole (listed []) (st.at + r.len))) (wide [] none_wide)
+          takes_four mode sources names st (gathered (listed []) (st.at + r.len)) (wide [] none_wide)
           n.dst_col (sum_at mode text _ _ _ s.three.first n.dst_col st.dst_col ns.col f.col)
           n.source_id n.src_line n.src_col
           (id_at mode text _ _ _ s.three.second n.source_id st.source_id ns.source (omega (arith, f.source)) sources f.source)
@@ -99,15 +96,13 @@ module _ (mode : Mode) (text : List ℕ) where
       abbrev fifth : List Field
       fifth = field s.place v.num ∷ []
 
-      fifth_wide : wide_from 4 fifth ≡ 5
+      fifth_wide : wide_from 4 fifth ≡ None
       unfolding wide_from
       fifth_wide = rw (narrow s.place (st.at + r.len) r.name v)
 
-      taken_five : applied mode sources names st (segment_of (whole (listed fifth) (st.at + r.len))) ≡ Applied.Took
-          (shown (state st.dst_line n.dst_col n.src_line n.src_col n.source_id n.name_id (st.at + r.len)) n.source_id n.name_id)
-          (state st.dst_line n.dst_col n.src_line n.src_col n.source_id n.name_id (st.at + r.len))
+      taken_five : applied mode sources names st (gathered (listed fifth) (st.at + r.len)) ≡ Ok (shown (state st.dst_line n.dst_col n.src_line n.src_col n.source_id n.name_id (st.at + r.len)) n.source_id n.name_id, state st.dst_line n.dst_col n.src_line n.src_col n.source_id n.name_id (st.at + r.len))
       taken_five =
-          takes_five mode sources names st (segment_of (whole (listed fifth) (st.at + r.len))) (wide fifth fifth_wide)
+          takes_five mode sources names st (gathered (listed fifth) (st.at + r.len)) (wide fifth fifth_wide)
           n.dst_col (sum_at mode text _ _ _ s.three.first n.dst_col st.dst_col ns.col f.col)
           n.source_id n.src_line n.src_col
           (id_at mode text _ _ _ s.three.second n.source_id st.source_id ns.source (omega (arith, f.source)) sources f.source)

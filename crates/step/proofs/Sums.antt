@@ -1,4 +1,5 @@
 -- A running number after a value of few digits, by its step. Assumes nothing.
+use Rattle.std.specs.Prelude.{Some, Ok, ℤ}
 use mathlib.Core.Path.{◌≡◌, ◌∙◌, ap}
 use mathlib.Core.Bool.{Bool, true, false}
 use mathlib.Core.List.{List}
@@ -14,8 +15,6 @@ use Rattle.value.specs.declared.Mode.{Mode}
 use Rattle.value.specs.declared.Mode.TheVariants.{Lenient, Checked}
 use Rattle.value.proofs.Standard.{value_plain}
 use Rattle.sums.specs.Sums.{reduced_of, sum_of, id_of, name_sum_of}
-use Rattle.sums.specs.declared.Kept.{Kept}
-use Rattle.sums.specs.declared.Id.{Id}
 use Rattle.short.specs.Short.{move_of, Stands, Stepped}
 
 down : (x base m : ℕ) → x + m ≡ base → pos base +ℤ neg_ℤ (pos m) ≡ pos x
@@ -36,19 +35,19 @@ module _ (mode : Mode) (text : List ℕ) (p q e : ℕ) (v : Stands text p q e) (
       let m : (x + 16) % 2 ^ 64 ≡ (base + move_of v.num) % 2 ^ 64 = s.moved ∙ ap (λ (y : ℕ). (base + y) % 2 ^ 64) v.moves in
       rw (value_plain mode v.num v.small v.plain) (by_sign (eqb (v.num % 2) 1) x base v.num v.small l s.small m)
 
-  reduced : (m : Mode) → reduced_of m x ≡ Kept.At x
+  reduced : (m : Mode) → reduced_of m x ≡ Ok x
   unfolding reduced_of
-  reduced Lenient = ap Kept.At (mod-eq_of_lt l)
+  reduced Lenient = ap Ok (mod-eq_of_lt l)
   reduced Checked = rw (lt-ltb x 4294967296 l)
 
-  pub sum_at : sum_of mode (pos base +ℤ number_of (value_of mode v.num 0)) ≡ Kept.At x
+  pub sum_at : sum_of mode (pos base +ℤ number_of (value_of mode v.num 0)) ≡ Ok x
   unfolding sum_of
   sum_at = rw sum (reduced mode)
 
-  pub name_at : name_sum_of mode (pos base +ℤ number_of (value_of mode v.num 0)) ≡ Kept.At x
+  pub name_at : name_sum_of mode (pos base +ℤ number_of (value_of mode v.num 0)) ≡ Ok x
   unfolding name_sum_of
   name_at = rw sum (reduced mode)
 
-  pub id_at : (count : ℕ) → x < count → id_of count (pos base +ℤ number_of (value_of mode v.num 0)) ≡ Id.Is x
+  pub id_at : (count : ℕ) → x < count → id_of count (pos base +ℤ number_of (value_of mode v.num 0)) ≡ Some x
   unfolding id_of
   id_at count h = rw (sum, lt-ltb x count h)

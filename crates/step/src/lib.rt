@@ -1,28 +1,25 @@
 // The next token of a text: delimiters are passed, and a segment is taken, by the short way where that can be done.
 #![tactic(auto)]
 
-ghost use Rattle.std.specs.Prelude.{◌≡◌, ◌+◌, ◌<◌, ◌^◌, length, eqb};
+ghost use Rattle.std.specs.Prelude.{◌≡◌, ◌+◌, ◌<◌, ◌^◌, Ok, Some, length, eqb};
 ghost use Rattle.list.specs.Pick.{pick};
 ghost use Rattle.token.specs.Table.{no_id};
 ghost use Rattle.digits.specs.Digits.{is_delim};
 ghost use Rattle.step.specs.Step.{commaed, lined, step_at};
-ghost use Rattle.step.specs.Ways.{told, segmented_at, offset_in, stepped_in, short_step, Opens, Closes, Passed};
+ghost use Rattle.step.specs.Ways.{told, segmented_at, offset_in, stepped_in, taken_at, short_step, Opens, Closes, Passed};
 ghost use Rattle.short.specs.Short.{Fit};
 
-use apply::{About, Applied, State};
+use apply::{About, Refusal, State};
 use code::Code;
-use segment::Ending;
 use short::Near;
 use token::Token;
 use value::Mode;
 
-// The next token with its segment's start and the state after it; a refusal with its offset; or the end. The token says its segment's
-// start as well, modulo 2^32: whoever places it looks first whether that is the start.
+// Why the next segment is not taken, and where the fault lies.
 #[derive(Clone, Copy)]
-pub enum Step {
-    Put(Token, usize, State),
-    Refuse(Code, usize),
-    Done,
+pub struct Refused {
+    pub code: Code,
+    pub offset: usize,
 }
 
 // The one place where a refusal's offset is chosen.
@@ -36,36 +33,52 @@ fn offset_of(s: &[u8], begin: usize, about: About) -> usize
     }
 }
 
-fn step_of(s: &[u8], begin: usize, a: Applied) -> Step
+// The step of a segment. The token says its segment's start as well, modulo 2^32: whoever places it looks first whether that is the
+// start.
+fn step_of(
+    s: &[u8],
+    begin: usize,
+    a: Result<(Token, State), Refusal>,
+) -> Result<Option<(Token, usize, State)>, Refused>
     ensures { result ≡ told (stepped_in s.now begin a) }
 {
     match a {
-        Applied::Took(t, st) => Step::Put(
-            token::with_segment(t, (begin % 4294967296) as u32),
-            begin,
-            st,
-        ),
-        Applied::Refused(code, about) => Step::Refuse(code, offset_of(s, begin, about)),
+        Ok((t, after)) => {
+            let t = token::with_segment(t, (begin % 4294967296) as u32);
+            Ok(Some((t, begin, after)))
+        }
+        Err(r) => Err(Refused {
+            code: r.code,
+            offset: offset_of(s, begin, r.about),
+        }),
     }
 }
 
+// The segment at the state's place, read and taken.
+fn take(
+    s: &[u8],
+    mode: Mode,
+    sources: u32,
+    names: u32,
+    st: State,
+) -> Result<(Token, State), Refusal>
+    ensures { result ≡ taken_at mode sources names s.now st }
+{
+    let g = segment::parse_vlq_segment(s, mode, st.at)?;
+    apply::apply_segment(mode, sources, names, st, g)
+}
+
 // A segment in general.
-fn general_step(s: &[u8], mode: Mode, sources: u32, names: u32, st: State) -> Step
+fn general_step(
+    s: &[u8],
+    mode: Mode,
+    sources: u32,
+    names: u32,
+    st: State,
+) -> Result<Option<(Token, usize, State)>, Refused>
     ensures { result ≡ told (segmented_at mode sources names s.now st) }
 {
-    let g = segment::parse_vlq_segment(s, mode, st.at);
-    let end = g.end;
-    match end {
-        Ending::Whole => step_of(s, st.at, apply::apply_segment(mode, sources, names, st, g)),
-        Ending::Leftover(place) => Step::Refuse(
-            Code::VlqLeftover,
-            offset_of(s, st.at, About::Place(place)),
-        ),
-        Ending::Overflow(place) => Step::Refuse(
-            Code::VlqOverflow,
-            offset_of(s, st.at, About::Place(place)),
-        ),
-    }
+    step_of(s, st.at, take(s, mode, sources, names, st))
 }
 
 fn shown_name(k: usize, name_id: u32) -> u32
@@ -77,45 +90,55 @@ fn shown_name(k: usize, name_id: u32) -> u32
     token::NONE
 }
 
-fn short_step(st: State, n: Near, k: usize, sources: u32, names: u32, len: usize) -> Step
+fn short_step(
+    st: State,
+    n: Near,
+    k: usize,
+    len: usize,
+    sources: u32,
+    names: u32,
+) -> (Token, usize, State)
     requires { Fit n k sources names × (st.at + len < 2 ^ 64) }
-    ensures { result ≡ told (short_step st n k len) }
+    ensures { Ok (Some result) ≡ told (short_step st n k len) }
 {
-    let mut r = st;
-    r.dst_col = n.dst_col as u32;
-    r.source_id = n.source_id as u32;
-    r.src_line = n.src_line as u32;
-    r.src_col = n.src_col as u32;
-    r.name_id = n.name_id as u32;
-    r.at = st.at + len;
-    Step::Put(
-        Token {
-            dst_line: r.dst_line,
-            dst_col: r.dst_col,
-            src_line: r.src_line,
-            src_col: r.src_col,
-            source_id: r.source_id,
-            name_id: shown_name(k, r.name_id),
-            segment: (st.at % 4294967296) as u32,
-        },
-        st.at,
-        r,
-    )
+    let after = State {
+        dst_line: st.dst_line,
+        src_line: n.src_line as u32,
+        dst_col: n.dst_col as u32,
+        src_col: n.src_col as u32,
+        source_id: n.source_id as u32,
+        name_id: n.name_id as u32,
+        at: st.at + len,
+    };
+    let t = Token {
+        dst_line: after.dst_line,
+        dst_col: after.dst_col,
+        src_line: after.src_line,
+        src_col: after.src_col,
+        source_id: after.source_id,
+        name_id: shown_name(k, after.name_id),
+        segment: (st.at % 4294967296) as u32,
+    };
+    (t, st.at, after)
 }
 
 // One segment: by the short way where its tests hold, else, and for every refusal, in general.
-fn segment_step(s: &[u8], mode: Mode, sources: u32, names: u32, st: State) -> Step
+fn segment_step(
+    s: &[u8],
+    mode: Mode,
+    sources: u32,
+    names: u32,
+    st: State,
+) -> Result<Option<(Token, usize, State)>, Refused>
     requires { st.at < length s.now }
     ensures { result ≡ told (segmented_at mode sources names s.now st) }
 {
     let at = st.at;
     if at + 6 <= s.len() {
-        let shape = short::try_fast_4_or_5_segment(s, at);
-        let k = shape.fields;
-        if 0 < k {
+        if let Some(shape) = short::try_fast_4_or_5_segment(s, at) {
             let n = short::near_all(shape, st);
-            if short::fits(n, k, sources, names) {
-                return short_step(st, n, k, sources, names, shape.len);
+            if short::fits(n, shape.fields, sources, names) {
+                return Ok(Some(short_step(st, n, shape.fields, shape.len, sources, names)));
             }
         }
     }
@@ -136,14 +159,16 @@ fn crossed(st: State, b: u8) -> State
     requires { st.at + 1 < 2 ^ 64 }
     ensures { result ≡ pick (eqb b 59) (lined st) (commaed st) }
 {
-    let mut r = st;
-    r.at = st.at + 1;
+    let at = st.at + 1;
     if b == 59 {
-        r.dst_line = ((st.dst_line as u64 + 1) % 4294967296) as u32;
-        r.dst_col = 0;
-        return r;
+        return State {
+            dst_line: st.dst_line.wrapping_add(1),
+            dst_col: 0,
+            at,
+            ..st
+        };
     }
-    r
+    State { at, ..st }
 }
 
 // Past the delimiters that stand at the state's place.
@@ -175,13 +200,20 @@ pub fn next_after(s: &[u8], st: State) -> State
     st
 }
 
-// The next token, where no delimiter stands at the state's place.
-pub fn take_segment(s: &[u8], mode: Mode, sources: u32, names: u32, st: State) -> Step
+// The next token, the place where its segment begins and the state after it, where no delimiter stands at the state's place; none at the
+// end.
+pub fn take_segment(
+    s: &[u8],
+    mode: Mode,
+    sources: u32,
+    names: u32,
+    st: State,
+) -> Result<Option<(Token, usize, State)>, Refused>
     requires { Opens s.now st }
     ensures { result ≡ told (step_at mode sources names s.now st) }
 {
     if st.at < s.len() {
         return segment_step(s, mode, sources, names, st);
     }
-    Step::Done
+    Ok(None)
 }

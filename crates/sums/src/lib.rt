@@ -8,39 +8,23 @@ ghost use Rattle.sums.specs.Sums.{sum_of, id_of, name_sum_of, widest_of};
 
 use value::Mode;
 
-// A sum as it is kept, or why it is not.
+// Why a sum is not kept.
 #[derive(Clone, Copy)]
-pub enum Kept {
+pub enum Unkept {
     Negative,
     Wide,
-    At(u32),
 }
 
-#[derive(Clone, Copy)]
-pub enum Id {
-    Outside,
-    Is(u32),
-}
-
-// The bits of a signed number: what value::to_signed reads as that number.
-fn bits_of(v: i64) -> u64
-    ensures { as_signed result ≡ v }
-{
-    if v < 0 {
-        let below = -1 - v;
-        return 18446744073709551615 - below as u64;
-    }
-    v as u64
-}
-
+// The 64 bits of the sum: what value::to_signed reads as it.
 fn sum_of(base: u32, v: i64) -> u64
     requires { unsigned_abs v ≤ 2 ^ 62 }
     ensures { as_signed result ≡ pos base +ℤ v }
 {
-    std::num::wrapping_add_u64(base as u64, bits_of(v))
+    (base as u64).wrapping_add(v.cast_unsigned())
 }
 
 // The largest sum that a mode keeps. A negative one, as its bits, is larger in both.
+#[tactic(auto, unfolding(crate::specs::Sums::widest_of))]
 fn widest(mode: Mode) -> u64
     ensures { result ≡ widest_of mode }
 {
@@ -51,43 +35,43 @@ fn widest(mode: Mode) -> u64
 }
 
 // The column, the source line or the source column after a value. One comparison finds that a sum is kept.
-pub fn advance(mode: Mode, base: u32, v: i64) -> Kept
+pub fn advance(mode: Mode, base: u32, v: i64) -> Result<u32, Unkept>
     requires { unsigned_abs v ≤ 2 ^ 62 }
     ensures { result ≡ sum_of mode (pos base +ℤ v) }
 {
     let sum = sum_of(base, v);
     if sum <= widest(mode) {
-        return Kept::At((sum % 4294967296) as u32);
+        return Ok((sum % 4294967296) as u32);
     }
     if 9223372036854775808 <= sum {
-        return Kept::Negative;
+        return Err(Unkept::Negative);
     }
-    Kept::Wide
+    Err(Unkept::Wide)
 }
 
-// The source id after a value. A negative sum, as its bits, lies past every count.
-pub fn source_after(base: u32, v: i64, count: u32) -> Id
+// The source id after a value, none where it is outside. A negative sum, as its bits, lies past every count.
+pub fn source_after(base: u32, v: i64, count: u32) -> Option<u32>
     requires { unsigned_abs v ≤ 2 ^ 62 }
     ensures { result ≡ id_of count (pos base +ℤ v) }
 {
     let sum = sum_of(base, v);
     if sum < count as u64 {
-        return Id::Is(sum as u32);
+        return Some(sum as u32);
     }
-    Id::Outside
+    None
 }
 
 // The name id after a value. The low 32 bits of a sum are the sum modulo 2^32, of a negative one too.
-pub fn name_after(mode: Mode, base: u32, v: i64) -> Kept
+pub fn name_after(mode: Mode, base: u32, v: i64) -> Result<u32, Unkept>
     requires { unsigned_abs v ≤ 2 ^ 62 }
     ensures { result ≡ name_sum_of mode (pos base +ℤ v) }
 {
     let sum = sum_of(base, v);
     if sum < 4294967296 {
-        return Kept::At(sum as u32);
+        return Ok(sum as u32);
     }
     match mode {
-        Mode::Lenient => Kept::At((sum % 4294967296) as u32),
-        Mode::Checked => Kept::Wide,
+        Mode::Lenient => Ok((sum % 4294967296) as u32),
+        Mode::Checked => Err(Unkept::Wide),
     }
 }

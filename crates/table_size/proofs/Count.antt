@@ -16,11 +16,6 @@ use Rattle.digits.specs.Digits.{is_delim, class_of}
 use Rattle.digits.proofs.Tables.{code_cases}
 use Rattle.table_size.specs.Size.{segments_from}
 
--- a byte's code is 64 exactly where it is a delimiter
-pub coded : (b r : ℕ) → b < 256 → r ≡ class_of b → eqb r 64 ≡ is_delim b
-coded b r h e =
-    ⊎_elim (λ k. eq-eqb r 64 (e ∙ k.is) ∙ sym k.delim) (λ k. ne_eqb r 64 (λ q. omega (arith, k.small)) ∙ sym k.delim) (code_cases b h)
-
 -- the segments that begin before the i-th byte are counted
 pub record Counting (text : List ℕ) (n : ℕ) (inside : Bool) (i : ℕ) : Type 0 where
   pub is : n + segments_from inside (drop i text) ≡ segments_from false text

@@ -1,4 +1,6 @@
 -- A table with a place for each segment is never full. Assumes nothing.
+use Rattle.std.specs.Prelude.{Some, None, Result, Ok, Err, ⊤}
+use Rattle.code.specs.declared.Code.{Code}
 use mathlib.Core.Path.{◌≡◌, refl, sym, ◌∙◌, subst}
 use mathlib.Core.Bool.{Bool, true, false}
 use mathlib.Core.List.{List, [], ◌∷◌}
@@ -12,14 +14,12 @@ use Rattle.token.specs.Table.{width, places}
 use Rattle.token.specs.declared.Token.{Token}
 use Rattle.digits.specs.Digits.{is_delim}
 use Rattle.value.specs.declared.Mode.{Mode}
-use Rattle.segment.specs.Segment.{Fields, whole, leftover, overflow, starts, segment_of, fields_from}
+use Rattle.segment.specs.Segment.{Fields, whole, leftover, overflow, starts, fields_from, gathered}
 use Rattle.segment.proofs.Border.{Border, Ends, ends}
 use Rattle.apply.specs.declared.State.{State}
-use Rattle.apply.specs.declared.Applied.{Applied}
-use Rattle.apply.specs.Apply.{applied}
+use Rattle.apply.specs.Apply.{applied, refusal, Applied}
 use Rattle.apply.proofs.Lands.{Plain, Lands, lands}
-use Rattle.step.specs.declared.Step.{Step}
-use Rattle.step.specs.Step.{start, commaed, lined, stepped, segment_step, step_from, step_at}
+use Rattle.step.specs.Step.{start, commaed, lined, stepped, segment_step, step_from, step_at, refused, Step}
 use Rattle.decode.specs.Mapping.{Out, run, decoded}
 use Rattle.decode.proofs.Runs.{run_by}
 use Rattle.table_size.specs.Size.{segments_from, table_size, NeverFull}
@@ -68,21 +68,26 @@ past at next b bs d l h = by (next - at) refl h
     by zero e w = yes_no (sym w ∙ d)
     by (suc k) e w = (omega (arith, e), rw (e, begins_one b bs d, border_same (drop k bs) w) (omega (arith, drop_less k bs)))
 
+-- the end is not that the table is full
+abbrev Unfilled : Result ⊤ Code → Type 0
+Unfilled (Ok done) = Unit {0}
+Unfilled (Err code) = Plain code
+
 -- ---- a step that gives a token
 module _ (mode : Mode) (sources names : ℕ) where
   -- the bytes stand at the state's place: there are fewer segments behind a token, and a refusal does not speak of the table
   abbrev Fewer : State → List ℕ → Step → Type 0
-  Fewer s bs (Step.Put t begin s') = (s.at < s'.at) × (segments_from false (drop (s'.at - s.at) bs) < segments_from false bs)
-  Fewer s bs (Step.Refuse code offset) = Plain code
-  Fewer s bs Step.Done = Unit {0}
+  Fewer s bs (Ok (Some (t, begin, s'))) = (s.at < s'.at) × (segments_from false (drop (s'.at - s.at) bs) < segments_from false bs)
+  Fewer s bs (Err r) = Plain r.code
+  Fewer s bs (Ok None) = Unit {0}
 
   later : (s s₁ : State) (b : ℕ) (bs : List ℕ) (r : Step) → s₁.at ≡ s.at + 1 → is_delim b ≡ true → Fewer s₁ bs r → Fewer s (b ∷ bs) r
   unfolding segments_from
-  later s s₁ b bs (Step.Put t begin s') e d h =
+  later s s₁ b bs (Ok (Some (t, begin, s'))) e d h =
       let n : s'.at - s.at ≡ suc (s'.at - s₁.at) = omega (arith, h.0) in
       (omega (arith, h.0), rw (n, d) h.1)
-  later s s₁ b bs (Step.Refuse code offset) e d h = h
-  later s s₁ b bs Step.Done e d h = tt
+  later s s₁ b bs (Err r) e d h = h
+  later s s₁ b bs (Ok None) e d h = tt
 
   step_fewer : (s : State) (b : ℕ) (bs : List ℕ) → is_delim b ≡ false → (f : Fields) → fields_from mode 0 s.at (b ∷ bs) ≡ f
       → Fewer s (b ∷ bs) (segment_step mode sources names s f)
@@ -90,14 +95,14 @@ module _ (mode : Mode) (sources names : ℕ) where
   step_fewer s b bs d (leftover place) e = λ q. omega arith
   step_fewer s b bs d (overflow place) e = λ q. omega arith
   step_fewer s b bs d (whole fs next) e =
-      by (applied mode sources names s (segment_of (whole fs next))) (lands mode sources names (segment_of (whole fs next)) s)
+      by (applied mode sources names s (gathered fs next)) (lands mode sources names (gathered fs next) s)
     where
       border : Ends s.at (b ∷ bs) (whole fs next)
       border = subst (Ends s.at (b ∷ bs)) e (ends mode 0 s.at (b ∷ bs))
 
       by : (a : Applied) → Lands next a → Fewer s (b ∷ bs) (stepped s.at (starts fs) a)
-      by (Applied.Took t s') l = rw l (past s.at next b bs d border.0 border.1)
-      by (Applied.Refused code about) l = l
+      by (Ok (t, s')) l = rw l (past s.at next b bs d border.0 border.1)
+      by (Err r) l = l
 
   fewer : (s : State) (bs : List ℕ) → Fewer s bs (step_from mode sources names s bs)
   unfolding step_from is_delim
@@ -117,26 +122,26 @@ module _ (mode : Mode) (sources names : ℕ) where
   -- ---- the whole text
   module _ (text : List ℕ) where
     -- a step of the text leaves fewer segments
-    puts : (s : State) (t : Token) (begin : ℕ) (s' : State) → step_at mode sources names text s ≡ Step.Put t begin s'
+    puts : (s : State) (t : Token) (begin : ℕ) (s' : State) → step_at mode sources names text s ≡ Ok (Some (t, begin, s'))
         → segments_from false (drop s'.at text) < segments_from false (drop s.at text)
     puts s t begin s' e =
-        let h : Fewer s (drop s.at text) (Step.Put t begin s') = subst (Fewer s (drop s.at text)) e (fewer s (drop s.at text)) in
+        let h : Fewer s (drop s.at text) (Ok (Some (t, begin, s'))) = subst (Fewer s (drop s.at text)) e (fewer s (drop s.at text)) in
         let n : s.at + (s'.at - s.at) ≡ s'.at = omega (arith, h.0) in
         rw (drop-drop (s'.at - s.at) s.at text, n) at h.1
 
     abbrev NotFull : ℕ → ℕ → State → Out → Type 0
-    NotFull index left s o = segments_from false (drop s.at text) ≤ left → Plain o.code
+    NotFull index left s o = segments_from false (drop s.at text) ≤ left → Unfilled o.end
 
     never_full : (index left : ℕ) (s : State) → NotFull index left s (run mode sources names text index left s)
     never_full =
         run_by mode sources names text NotFull
-        (λ index left s e h. λ q. omega arith)
+        (λ index left s e h. tt)
         (λ index left s code offset e h. subst (Fewer s (drop s.at text)) e (fewer s (drop s.at text)))
         (λ index left s t begin s' e l h. λ q. omega arith)
         (λ index s t begin s' e l h. absurd (omega (arith, puts s t begin s' e)))
         (λ index left s t begin s' o e l ih h. ih (omega (arith, puts s t begin s' e)))
 
-    pub enough : (room : ℕ) → segments_from false text ≤ room → Plain (decoded mode sources names text room).code
+    pub enough : (room : ℕ) → segments_from false text ≤ room → Unfilled (decoded mode sources names text room).end
     enough room h = never_full 0 room start h
 
 -- the size in numbers
@@ -148,5 +153,5 @@ pub never : NeverFull
 unfolding table_size
 never mode sources names text table d table' h k w =
     let n : width * segments_from false text ≤ length table = size_by (ltb (2 ^ 64 - 1) (width * segments_from false text)) _ (2 ^ 64 - 1) (length table) refl h (omega arith) in
-    let e : Plain d.code = rw w.says (enough mode sources names text (places (length table)) (omega arith)) in
-    e
+    let e : Unfilled d.end = rw w.says (enough mode sources names text (places (length table)) (omega arith)) in
+    λ q. subst Unfilled q e refl

@@ -1,7 +1,6 @@
 -- How many numbers a table needs so that it is never full. Assumes nothing.
-use Rattle.std.specs.Prelude.{Bool, true, false, List, [], ◌∷◌, ℕ, suc, ◌-◌, ◌*◌, ◌^◌, ◌<◌, ◌≤◌, ◌≡◌, ltb, length}
+use Rattle.std.specs.Prelude.{Bool, true, false, List, [], ◌∷◌, ℕ, suc, ◌-◌, ◌*◌, ◌^◌, ◌<◌, ◌≤◌, ◌≡◌, ltb, length, Err}
 use Rattle.list.specs.Pick.{pick}
-use Rattle.code.specs.Code.{code_of}
 use Rattle.code.specs.declared.Code.{Code}
 use Rattle.token.specs.Table.{width}
 use Rattle.digits.specs.Digits.{is_delim}
@@ -24,4 +23,4 @@ table_size text = pick (ltb (2 ^ 64 - 1) (width * segments_from false text)) (2 
 abbrev pub NeverFull : Type 0
 NeverFull =
     (mode : Mode) (sources names : ℕ) (text table : List ℕ) (d : Decoded) (table' : List ℕ) → table_size text ≤ length table → length table < 2 ^ 63
-    → Decodes mode sources names text table d table' → code_of d.code ≡ code_of Code.TableFull → ⊥
+    → Decodes mode sources names text table d table' → d.end ≡ Err Code.TableFull → ⊥

@@ -4,15 +4,7 @@
 ghost use Rattle.std.specs.Prelude.{◌≡◌, ◌≤◌, ◌+◌, ◌-◌, ◌*◌, ◌^◌, ltb, false};
 ghost use Rattle.list.specs.Pick.{pick};
 ghost use Rattle.token.specs.Table.{width};
-ghost use Rattle.digits.specs.Digits.{is_delim};
 ghost use Rattle.table_size.specs.Size.{segments_from, table_size};
-
-// `,` or `;`
-fn is_delim(b: u8) -> bool
-    ensures { result ≡ is_delim b }
-{
-    digits::code_of(b) == 64
-}
 
 // How many segments begin after a byte: one more where the byte begins one.
 fn counted(n: usize, inside: bool, delim: bool) -> usize
@@ -34,12 +26,10 @@ fn segments(text: &[u8]) -> usize
 {
     let mut n: usize = 0;
     let mut inside = false;
-    let mut i: usize = 0;
-    while i < text.len() {
-        let delim = is_delim(text[i]);
+    for b in text {
+        let delim = digits::is_delim(*b);
         n = counted(n, inside, delim);
         inside = !delim;
-        i += 1;
     }
     n
 }
@@ -48,8 +38,8 @@ fn segments(text: &[u8]) -> usize
 fn numbers(n: usize) -> usize
     ensures { result ≡ pick (ltb (2 ^ 64 - 1) (width * n)) (2 ^ 64 - 1) (width * n) }
 {
-    if 18446744073709551615 / token::WIDTH < n {
-        return 18446744073709551615;
+    if usize::MAX / token::WIDTH < n {
+        return usize::MAX;
     }
     token::WIDTH * n
 }

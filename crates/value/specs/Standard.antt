@@ -1,8 +1,6 @@
 -- ECMA-426: what a run of digits says. Assumes nothing.
-use Rattle.std.specs.Prelude.{Bool, ℕ, ◌+◌, ◌-◌, ◌*◌, ◌/◌, ◌%◌, ◌^◌, pos, negsuc, neg_ℤ, eqb, leb, ltb}
+use Rattle.std.specs.Prelude.{Bool, ℕ, ◌+◌, ◌-◌, ◌*◌, ◌/◌, ◌%◌, ◌^◌, pos, negsuc, neg_ℤ, eqb, leb, ltb, Option, Some, None, ℤ}
 use Rattle.list.specs.Pick.{pick, both}
-use Rattle.value.specs.declared.Judged.{Judged}
-use Rattle.value.specs.declared.Judged.TheVariants.{Is, Wide}
 
 -- digits that go on (32 to 63), any number of them, then a terminal digit (0 to 31)
 pub data Run : Type 0 where
@@ -29,9 +27,9 @@ magnitude u = u / 2
 unfoldable pub too_wide : ℕ → Bool
 too_wide u = leb (2 ^ 31) (magnitude u)
 
--- the signed value of an unsigned one; a minus on zero is -2^31
-unfoldable pub signed : ℕ → Judged
+-- the signed value of an unsigned one, none where it is too wide; a minus on zero is -2^31
+unfoldable pub signed : ℕ → Option ℤ
 signed u =
-    pick (too_wide u) Wide
-    (pick (minus u) (pick (eqb (magnitude u) 0) (Is (negsuc (2 ^ 31 - 1))) (Is (neg_ℤ (pos (magnitude u)))))
-    (Is (pos (magnitude u))))
+    pick (too_wide u) None
+    (pick (minus u) (pick (eqb (magnitude u) 0) (Some (negsuc (2 ^ 31 - 1))) (Some (neg_ℤ (pos (magnitude u)))))
+    (Some (pos (magnitude u))))

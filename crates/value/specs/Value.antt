@@ -1,10 +1,8 @@
 -- docs/RULES.md, Values: the sign, and what a value is in each mode. Assumes nothing.
-use Rattle.std.specs.Prelude.{Bool, true, false, ℕ, suc, ◌+◌, ◌-◌, ◌*◌, ◌/◌, ◌%◌, ◌^◌, ℤ, pos, negsuc, neg_ℤ, eqb, ltb}
+use Rattle.std.specs.Prelude.{Bool, true, false, ℕ, suc, ◌+◌, ◌-◌, ◌*◌, ◌/◌, ◌%◌, ◌^◌, ℤ, pos, negsuc, neg_ℤ, eqb, ltb, Option, Some, None}
 use Rattle.list.specs.Pick.{pick}
 use Rattle.value.specs.declared.Mode.{Mode}
 use Rattle.value.specs.declared.Mode.TheVariants.{Lenient, Checked}
-use Rattle.value.specs.declared.Judged.{Judged}
-use Rattle.value.specs.declared.Judged.TheVariants.{Is, Wide}
 use Rattle.value.specs.Standard.{signed}
 
 -- a number below 2^64, as the signed 64-bit number that has the same bits
@@ -25,17 +23,17 @@ odd (negsuc n) = eqb (n % 2) 0
 abbrev pub sign_of : ℤ → ℤ
 sign_of z = pick (odd z) (neg_ℤ (half z)) (half z)
 
--- the value of a number whose low 64 bits are bits, and whose bits above them are lost. Lenient mode is the crate's, and looks at the low
+-- the value of a number whose low 64 bits are bits, and whose bits above them are lost; none where it is too wide. Lenient mode is the crate's, and looks at the low
 -- ones alone; checked mode is the standard's, of the whole number.
-unfoldable pub value_of : Mode → ℕ → ℕ → Judged
-value_of Lenient bits lost = Is (sign_of (as_signed bits))
+unfoldable pub value_of : Mode → ℕ → ℕ → Option ℤ
+value_of Lenient bits lost = Some (sign_of (as_signed bits))
 value_of Checked bits lost = signed (bits + 2 ^ 64 * lost)
 
 -- the number that a value is; 0 where it is none
-abbrev pub number_of : Judged → ℤ
-number_of (Is z) = z
-number_of Wide = pos 0
+abbrev pub number_of : Option ℤ → ℤ
+number_of (Some z) = z
+number_of None = pos 0
 
-abbrev pub is_wide : Judged → Bool
-is_wide (Is z) = false
-is_wide Wide = true
+abbrev pub is_wide : Option ℤ → Bool
+is_wide (Some z) = false
+is_wide None = true

@@ -12,22 +12,11 @@ pub enum Mode {
     Checked,
 }
 
-// What a value's digits say: a number, or that it is too wide to be one.
-#[derive(Clone, Copy)]
-pub enum Judged {
-    Is(i64),
-    Wide,
-}
-
 // The bits of a 64-bit number, read as a signed one.
 pub fn to_signed(n: u64) -> i64
     ensures { result ≡ as_signed n }
 {
-    if n < 0x8000_0000_0000_0000 {
-        n as i64
-    } else {
-        (n - 0x8000_0000_0000_0000) as i64 + (-9223372036854775808)
-    }
+    n.cast_signed()
 }
 
 // Half of `cur`, rounded down, and negated where its lowest bit is set.
@@ -38,39 +27,41 @@ pub fn decode_sign(cur: i64) -> i64
     if cur & 1 == 1 { -mag } else { mag }
 }
 
-// By ECMA-426, which judges the whole number: its half, the magnitude, stays below 2^31, and minus zero is -2^31.
-fn standard_value(bits: u64, lost: u64) -> Judged
+// By ECMA-426, which judges the whole number: its half, the magnitude, stays below 2^31, or it is too wide and no value; minus zero is
+// -2^31.
+fn standard_value(bits: u64, lost: u64) -> Option<i64>
     ensures { result ≡ signed (bits + 2 ^ 64 * lost) }
 {
     if 0 < lost {
-        return Judged::Wide;
+        return None;
     }
     if 4294967296 <= bits {
-        return Judged::Wide;
+        return None;
     }
     if bits == 1 {
-        return Judged::Is(-2147483648);
+        return Some(-2147483648);
     }
-    Judged::Is(decode_sign(bits as i64))
+    Some(decode_sign(bits as i64))
 }
 
-fn judge(mode: Mode, bits: u64, lost: u64) -> Judged
+fn judge(mode: Mode, bits: u64, lost: u64) -> Option<i64>
     ensures { result ≡ value_of mode bits lost }
 {
     match mode {
-        Mode::Lenient => Judged::Is(decode_sign(to_signed(bits))),
+        Mode::Lenient => Some(decode_sign(to_signed(bits))),
         Mode::Checked => standard_value(bits, lost),
     }
 }
 
-// The one place where a number becomes a value. Nearly every number is below 2^32 and not minus zero: the modes agree on it.
-pub fn value_of(mode: Mode, bits: u64, lost: u64) -> Judged
+// The one place where a number becomes a value, or none where it is too wide. Nearly every number is below 2^32 and not minus zero: the
+// modes agree on it.
+pub fn value_of(mode: Mode, bits: u64, lost: u64) -> Option<i64>
     ensures { result ≡ value_of mode bits lost }
 {
     if lost == 0 {
         if bits < 4294967296 {
             if bits != 1 {
-                return Judged::Is(decode_sign(bits as i64));
+                return Some(decode_sign(bits as i64));
             }
         }
     }

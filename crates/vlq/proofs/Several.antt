@@ -1,4 +1,5 @@
 -- A number that ends within four bytes, as the code makes it of them. Assumes nothing.
+use Rattle.std.specs.Prelude.{Some, Ok}
 use mathlib.Core.Path.{◌≡◌, refl, sym, ◌∙◌, ap}
 use mathlib.Core.Bool.{Bool, true, false}
 use mathlib.Core.List.{List}
@@ -19,7 +20,6 @@ use Rattle.digits.proofs.Tables.{agree, agree_eq}
 use Rattle.digits.proofs.Words.{first, second, third, fourth, zeros}
 use Rattle.vlq.specs.Vlq.{vlq_at}
 use Rattle.vlq.specs.Several.{each, end_of, high_of, low_of, bad_of, five_of, bits_of, count_of, FewIn}
-use Rattle.vlq.specs.declared.Vlq.TheVariants.{Value}
 use Rattle.vlq.proofs.Places.{put_exact}
 use Rattle.vlq.proofs.Steps.{Reading, start, gives, turns}
 use Rattle.vlq.proofs.Lanes.{Under, under, Lanes}
@@ -40,33 +40,33 @@ module _ (s : List ℕ) (at cur k i five : ℕ) (r : Reading s at cur k i) (h : 
   goes_on : 32 ≤ digit_of (get_or s i 0) → (next j : ℕ) → next ≡ cur + five * 2 ^ (5 * k) → j ≡ i + 1 → Reading s at next (k + 1) j
   goes_on q next j e p = rw (e, p, whole) (turns s at cur k i r h g.delim (omega arith) q)
 
-  ends_here : digit_of (get_or s i 0) < 32 → (next j : ℕ) → next ≡ cur + five * 2 ^ (5 * k) → j ≡ i + 1 → 0 ≡ pick (eqb k 12) (digit_of (get_or s i 0) % 32 / 16) 0 → vlq_at s at ≡ Value next 0 j
+  ends_here : digit_of (get_or s i 0) < 32 → (next j : ℕ) → next ≡ cur + five * 2 ^ (5 * k) → j ≡ i + 1 → 0 ≡ pick (eqb k 12) (digit_of (get_or s i 0) % 32 / 16) 0 → vlq_at s at ≡ Ok (Some (next, 0, j))
   ends_here q next j e p z =
-      gives s at cur k i r h g.delim (omega arith) q next 0 (e ∙ whole) z ∙ ap (λ (m : ℕ). Value next 0 m) (sym p)
+      gives s at cur k i r h g.delim (omega arith) q next 0 (e ∙ whole) z ∙ ap (λ (m : ℕ). Ok (Some (next, 0, m))) (sym p)
 
 module _ (s : List ℕ) (at x y z t : ℕ) (h : at + 4 ≤ length s) (ga : Digit (get_or s at 0) x) where
-  one : digit_of (get_or s at 0) < 32 → vlq_at s at ≡ Value x 0 (at + 1)
+  one : digit_of (get_or s at 0) < 32 → vlq_at s at ≡ Ok (Some (x, 0, at + 1))
   one q = ends_here s at 0 0 at x (start s at (omega arith) ga.delim) (omega arith) ga (omega arith) q x (at + 1) (omega arith) refl refl
 
   module _ (qa : 32 ≤ digit_of (get_or s at 0)) (gb : Digit (get_or s (at + 1) 0) y) where
     after_one : Reading s at x 1 (at + 1)
     after_one = goes_on s at 0 0 at x (start s at (omega arith) ga.delim) (omega arith) ga (omega arith) qa x (at + 1) (omega arith) refl
 
-    two : digit_of (get_or s (at + 1) 0) < 32 → vlq_at s at ≡ Value (x + y * 32) 0 (at + 2)
+    two : digit_of (get_or s (at + 1) 0) < 32 → vlq_at s at ≡ Ok (Some (x + y * 32, 0, at + 2))
     two q = ends_here s at x 1 (at + 1) y after_one (omega arith) gb (omega arith) q (x + y * 32) (at + 2) (omega arith) (omega arith) refl
 
     module _ (qb : 32 ≤ digit_of (get_or s (at + 1) 0)) (gc : Digit (get_or s (at + 2) 0) z) where
       after_two : Reading s at (x + y * 32) 2 (at + 2)
       after_two = goes_on s at x 1 (at + 1) y after_one (omega arith) gb (omega arith) qb (x + y * 32) (at + 2) (omega arith) (omega arith)
 
-      three : digit_of (get_or s (at + 2) 0) < 32 → vlq_at s at ≡ Value (x + y * 32 + z * 1024) 0 (at + 3)
+      three : digit_of (get_or s (at + 2) 0) < 32 → vlq_at s at ≡ Ok (Some (x + y * 32 + z * 1024, 0, at + 3))
       three q = ends_here s at (x + y * 32) 2 (at + 2) z after_two (omega arith) gc (omega arith) q (x + y * 32 + z * 1024) (at + 3) (omega arith) (omega arith) refl
 
       module _ (qc : 32 ≤ digit_of (get_or s (at + 2) 0)) (gd : Digit (get_or s (at + 3) 0) t) where
         after_three : Reading s at (x + y * 32 + z * 1024) 3 (at + 3)
         after_three = goes_on s at (x + y * 32) 2 (at + 2) z after_two (omega arith) gc (omega arith) qc (x + y * 32 + z * 1024) (at + 3) (omega arith) (omega arith)
 
-        four : digit_of (get_or s (at + 3) 0) < 32 → vlq_at s at ≡ Value (x + y * 32 + z * 1024 + t * 32768) 0 (at + 4)
+        four : digit_of (get_or s (at + 3) 0) < 32 → vlq_at s at ≡ Ok (Some (x + y * 32 + z * 1024 + t * 32768, 0, at + 4))
         four q = ends_here s at (x + y * 32 + z * 1024) 3 (at + 3) t after_three (omega arith) gd (omega arith) q (x + y * 32 + z * 1024 + t * 32768) (at + 4) (omega arith) (omega arith) refl
 
 -- ---- one byte below 128, by tests that antt computes
@@ -204,10 +204,10 @@ module _ (a b c d : ℕ) (pa : a < 128) (pb : b < 128) (pc : c < 128) (pd : d < 
     (ef : five ≡ word (five_of a) (five_of b) (five_of c) (five_of d)) (ev : bits ≡ bits_of (bit_and five m))
     (s : List ℕ) (at : ℕ) (h : at + 4 ≤ length s)
     (sa : get_or s at 0 ≡ a) (sb : get_or s (at + 1) 0 ≡ b) (sc : get_or s (at + 2) 0 ≡ c) (sd : get_or s (at + 3) 0 ≡ d) where
-  so : (v k : ℕ) → vlq_at s at ≡ Value v 0 (at + k) → v ≡ bits → k ≡ count → vlq_at s at ≡ Value bits 0 (at + count)
-  so v k e p q = e ∙ ap (λ (x : ℕ). Value x 0 (at + k)) p ∙ ap (λ (x : ℕ). Value bits 0 (at + x)) q
+  so : (v k : ℕ) → vlq_at s at ≡ Ok (Some (v, 0, at + k)) → v ≡ bits → k ≡ count → vlq_at s at ≡ Ok (Some (bits, 0, at + count))
+  so v k e p q = e ∙ ap (λ (x : ℕ). Ok (Some (x, 0, at + k))) p ∙ ap (λ (x : ℕ). Ok (Some (bits, 0, at + x))) q
 
-  value : Mask a b c d m count → vlq_at s at ≡ Value bits 0 (at + count)
+  value : Mask a b c d m count → vlq_at s at ≡ Ok (Some (bits, 0, at + count))
   value (in_one p e n) =
       let z = zeros (bad_of a) 0 0 0 (sym (left_one bad (bad_of a) (bad_of b) (bad_of c) (bad_of d) m eb (bad_lt a pa) (bad_lt b pb) (bad_lt c pc) (bad_lt d pd) e) ∙ nb) in
       let v : bits ≡ five_of a = ev ∙ ap bits_of (left_one five (five_of a) (five_of b) (five_of c) (five_of d) m ef (five_lt a pa) (five_lt b pb) (five_lt c pc) (five_lt d pd) e) ∙ bits_word (five_of a) 0 0 0 (five_lt a pa) (omega arith) (omega arith) ∙ omega arith in
@@ -247,15 +247,15 @@ module _ (w : ℕ) (l : Lanes w) (f m bad five bits count : ℕ) (ee : f ≡ eac
       (mask_by (w % 256) (w / 256 % 256) (w / 65536 % 256) (w / 16777216) f m ee nf em
       (end_cases (w % 256) l.first) (end_cases (w / 256 % 256) l.second) (end_cases (w / 65536 % 256) l.third) (end_cases (w / 16777216) l.fourth))
 
-  pub few : (count ≤ 4) × FewIn w bits count
-  few = (
-    counted (w % 256) (w / 256 % 256) (w / 65536 % 256) (w / 16777216) m count mask,
-    λ s at h small is q.
+  pub few : FewIn w (record { bits = bits; count = count })
+  few = λ s at h small is. record {
+    short = counted (w % 256) (w / 256 % 256) (w / 65536 % 256) (w / 16777216) m count mask;
+    reads =
         value (w % 256) (w / 256 % 256) (w / 65536 % 256) (w / 16777216) l.first l.second l.third l.fourth
         m bad five bits count eb nb ef ev s at h
         (sym (ap (λ (x : ℕ). x % 256) is ∙ first (get_or s at 0) (get_or s (at + 1) 0) (get_or s (at + 2) 0) (get_or s (at + 3) 0) (small at)))
         (sym (ap (λ (x : ℕ). x / 256 % 256) is ∙ second (get_or s at 0) (get_or s (at + 1) 0) (get_or s (at + 2) 0) (get_or s (at + 3) 0) (small at) (small (at + 1))))
         (sym (ap (λ (x : ℕ). x / 65536 % 256) is ∙ third (get_or s at 0) (get_or s (at + 1) 0) (get_or s (at + 2) 0) (get_or s (at + 3) 0) (small at) (small (at + 1)) (small (at + 2))))
         (sym (ap (λ (x : ℕ). x / 16777216) is ∙ fourth (get_or s at 0) (get_or s (at + 1) 0) (get_or s (at + 2) 0) (get_or s (at + 3) 0) (small at) (small (at + 1)) (small (at + 2))))
-        mask,
-  )
+        mask;
+  }

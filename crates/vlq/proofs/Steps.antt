@@ -1,5 +1,6 @@
 -- The reader's loop, as laws of the definitions: where it starts, each of its ways out, and a turn.
 -- Assumes nothing.
+use Rattle.std.specs.Prelude.{Some, None, Ok, Err}
 use mathlib.Core.Path.{◌≡◌, refl, sym, ◌∙◌, ap}
 use mathlib.Core.Bool.{Bool, true, false}
 use mathlib.Core.List.{List, [], ◌∷◌}
@@ -15,8 +16,8 @@ use Rattle.list.specs.Pick.{pick}
 use Rattle.digits.specs.Digits.{digit_of, is_delim, class_of}
 use Rattle.digits.proofs.Tables.{Digit, delim_is, is_digit}
 use Rattle.vlq.specs.Vlq.{Digits, cut, long, num, push, digits_from, vlq_from, vlq_of, vlq_at}
-use Rattle.vlq.specs.declared.Vlq.TheVariants.{End, Value, Leftover, Overflow}
 use Rattle.vlq.proofs.Places.{place_next, put_exact, put_lt, lost_is}
+use Rattle.vlq.specs.declared.Broken.{Broken}
 
 -- k digits have been read, which make cur: what the rest of the digits then gives
 abbrev pub under : ℕ → ℕ → Digits → Digits
@@ -80,11 +81,11 @@ pub record Reading (s : List ℕ) (at cur k i : ℕ) : Type 0 where
   pub low : k < 13 → cur < 2 ^ (5 * k)
   pub is : vlq_at s at ≡ vlq_from at (under cur k (digits_from (13 - k) (drop i s)))
 
-pub past_end : (s : List ℕ) (at : ℕ) → length s ≤ at → vlq_at s at ≡ End
+pub past_end : (s : List ℕ) (at : ℕ) → length s ≤ at → vlq_at s at ≡ Ok None
 unfolding vlq_of
 past_end s at h = rw (drop_of_length-le s {i = at} h)
 
-pub at_delim : (s : List ℕ) (at : ℕ) → at < length s → is_delim (get_or s at 0) ≡ true → vlq_at s at ≡ End
+pub at_delim : (s : List ℕ) (at : ℕ) → at < length s → is_delim (get_or s at 0) ≡ true → vlq_at s at ≡ Ok None
 unfolding vlq_of
 at_delim s at h e = rw (drop-cons s at 0 h, e)
 
@@ -103,25 +104,25 @@ module _ (s : List ℕ) (at cur k i : ℕ) (r : Reading s at cur k i) where
   here : at + (k + 0) ≡ i
   here = omega (arith, r.place)
 
-  pub ends : length s ≤ i → vlq_at s at ≡ Leftover i
-  ends h = r.is ∙ rw (drop_of_length-le s {i = i} h, tail_nil (13 - k)) (ap Leftover here)
+  pub ends : length s ≤ i → vlq_at s at ≡ Err (Broken.Leftover i)
+  ends h = r.is ∙ rw (drop_of_length-le s {i = i} h, tail_nil (13 - k)) (ap (λ (p : ℕ). Err (Broken.Leftover p)) here)
 
   module _ (h : i < length s) where
-    pub cuts : is_delim (get_or s i 0) ≡ true → vlq_at s at ≡ Leftover i
-    cuts e = r.is ∙ rw (drop-cons s i 0 h, tail_delim (13 - k) (get_or s i 0) (drop (suc i) s) e) (ap Leftover here)
+    pub cuts : is_delim (get_or s i 0) ≡ true → vlq_at s at ≡ Err (Broken.Leftover i)
+    cuts e = r.is ∙ rw (drop-cons s i 0 h, tail_delim (13 - k) (get_or s i 0) (drop (suc i) s) e) (ap (λ (p : ℕ). Err (Broken.Leftover p)) here)
 
-    pub overflows : is_delim (get_or s i 0) ≡ false → 13 ≤ k → vlq_at s at ≡ Overflow i
-    overflows e l = r.is ∙ rw (drop-cons s i 0 h, tail_long (13 - k) (get_or s i 0) (drop (suc i) s) e (omega arith)) (ap Overflow here)
+    pub overflows : is_delim (get_or s i 0) ≡ false → 13 ≤ k → vlq_at s at ≡ Err (Broken.Overflow i)
+    overflows e l = r.is ∙ rw (drop-cons s i 0 h, tail_long (13 - k) (get_or s i 0) (drop (suc i) s) e (omega arith)) (ap (λ (p : ℕ). Err (Broken.Overflow p)) here)
 
     -- n and lost are what the code makes of the last digit
     pub gives : is_delim (get_or s i 0) ≡ false → k < 13 → digit_of (get_or s i 0) < 32
         → (n lost : ℕ) → n ≡ (cur + digit_of (get_or s i 0) % 32 * 2 ^ (5 * k)) % 2 ^ 64 → lost ≡ pick (eqb k 12) (digit_of (get_or s i 0) % 32 / 16) 0
-        → vlq_at s at ≡ Value n lost (i + 1)
+        → vlq_at s at ≡ Ok (Some (n, lost, i + 1))
     gives e l d n lost en el =
         r.is
         ∙ rw (drop-cons s i 0 h, tail_last (13 - k) (get_or s i 0) (drop (suc i) s) e (omega arith) d, sum)
         (rw (← en, lost_is cur k (digit_of (get_or s i 0) % 32) l (r.low l) (omega arith), ← el)
-        (ap (λ (m : ℕ). Value n lost m) (omega (arith, r.place))))
+        (ap (λ (m : ℕ). Ok (Some (n, lost, m))) (omega (arith, r.place))))
       where
         sum : 2 ^ (5 * k) * digit_of (get_or s i 0) ≡ digit_of (get_or s i 0) % 32 * 2 ^ (5 * k)
         sum = rw (mod-eq_of_lt d) (mul_comm (2 ^ (5 * k)) (digit_of (get_or s i 0)))
@@ -161,20 +162,20 @@ module _ (s : List ℕ) (at cur k i : ℕ) (r : Reading s at cur k i) where
 
 -- a value of one digit
 pub one_digit : (s : List ℕ) (at : ℕ) → at < length s → is_delim (get_or s at 0) ≡ false → digit_of (get_or s at 0) < 32
-    → vlq_at s at ≡ Value (digit_of (get_or s at 0)) 0 (at + 1)
+    → vlq_at s at ≡ Ok (Some (digit_of (get_or s at 0), 0, at + 1))
 one_digit s at h e d =
     gives s at 0 0 at (start s at h e) h e (omega arith) d (digit_of (get_or s at 0)) 0 (omega arith) refl
 
 -- ---- the same as the code has it: t tells whether the byte is a delimiter, d is what it reads as, w and v are d widened
 module _ (s : List ℕ) (at : ℕ) (h : at < length s) (t : Bool) (e : t ≡ is_delim (get_or s at 0)) where
-  pub begins_not : t ≡ true → End ≡ vlq_at s at
+  pub begins_not : t ≡ true → Ok None ≡ vlq_at s at
   begins_not q = sym (at_delim s at h (sym e ∙ q))
 
   pub begins : t ≡ false → Reading s at 0 0 at
   begins q = start s at h (sym e ∙ q)
 
 module _ (s : List ℕ) (at cur k i : ℕ) (r : Reading s at cur k i) (h : i < length s) (small : get_or s i 0 < 256) (d : ℕ) (ed : d ≡ class_of (get_or s i 0)) where
-  pub cut_at : d ≡ 64 → Leftover i ≡ vlq_at s at
+  pub cut_at : d ≡ 64 → Err (Broken.Leftover i) ≡ vlq_at s at
   cut_at q = sym (cuts s at cur k i r h (delim_is (get_or s i 0) d small ed q))
 
   module _ (n : d ≡ 64 → ⊥) where
@@ -184,14 +185,14 @@ module _ (s : List ℕ) (at cur k i : ℕ) (r : Reading s at cur k i) (h : i < l
     same : d ≡ digit_of (get_or s i 0)
     same = ed ∙ digit.is
 
-    pub over_at : 13 ≤ k → Overflow i ≡ vlq_at s at
+    pub over_at : 13 ≤ k → Err (Broken.Overflow i) ≡ vlq_at s at
     over_at q = sym (overflows s at cur k i r h digit.delim q)
 
     module _ (l : k < 13) (w : ℕ) (ew : w ≡ d) (next : ℕ) (en : next ≡ (cur + w % 32 * 2 ^ (5 * k)) % 2 ^ 64) where
       next_is' : next ≡ (cur + digit_of (get_or s i 0) % 32 * 2 ^ (5 * k)) % 2 ^ 64
       next_is' = en ∙ ap (λ (x : ℕ). (cur + x % 32 * 2 ^ (5 * k)) % 2 ^ 64) (ew ∙ same)
 
-      pub last_at : d < 32 → (v lost : ℕ) → v ≡ d → lost ≡ pick (eqb k 12) (v % 32 / 16) 0 → Value next lost (i + 1) ≡ vlq_at s at
+      pub last_at : d < 32 → (v lost : ℕ) → v ≡ d → lost ≡ pick (eqb k 12) (v % 32 / 16) 0 → Ok (Some (next, lost, i + 1)) ≡ vlq_at s at
       last_at q v lost ev el =
           sym (gives s at cur k i r h digit.delim l (omega (arith, same)) next lost next_is'
           (el ∙ ap (λ (x : ℕ). pick (eqb k 12) (x % 32 / 16) 0) (ev ∙ same)))

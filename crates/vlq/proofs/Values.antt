@@ -1,9 +1,10 @@
 -- What a caller of the reader knows of a value: it takes at least one byte, ends within the text, and is within its range.
 -- Assumes nothing.
-use mathlib.Core.Path.{◌≡◌, refl}
+use Rattle.std.specs.Prelude.{Some, None, Ok}
+use mathlib.Core.Path.{◌≡◌, refl, ap}
 use mathlib.Core.Bool.{Bool, true, false}
 use mathlib.Core.List.{List, [], ◌∷◌}
-use Prim.Native.Nat.{ℕ, suc, ◌+◌, ◌-◌, ◌*◌, ◌%◌, ◌^◌, ◌<◌, ◌≤◌}
+use Prim.Native.Nat.{ℕ, suc, ◌+◌, ◌-◌, ◌*◌, ◌/◌, ◌%◌, ◌^◌, ◌<◌, ◌≤◌}
 use native.Mathlib.Omega.{arith}
 use lib.IntN.{nat_abs}
 use lib.Dec.{ltb, eqb}
@@ -16,8 +17,13 @@ use Rattle.value.specs.Value.{value_of, number_of}
 use Rattle.value.specs.declared.Mode.{Mode}
 use Rattle.value.proofs.Range.{value_range}
 use Rattle.vlq.proofs.Places.{place_next}
-use Rattle.vlq.specs.Vlq.{Digits, cut, long, num, push, digits_from, vlq_from, vlq_of, vlq_at}
-use Rattle.vlq.specs.declared.Vlq.TheVariants.{End, Value}
+use Rattle.vlq.specs.Vlq.{Vlq, Digits, cut, long, num, push, digits_from, vlq_from, vlq_of, vlq_at}
+
+-- equal answers have equal parts
+pub parts : (a b c a' b' c' : ℕ) → ◌≡◌ {A = Vlq} (Ok (Some (a, b, c))) (Ok (Some (a', b', c'))) → (a ≡ a') × (b ≡ b') × (c ≡ c')
+parts a b c a' b' c' e =
+    let t : ◌≡◌ {A = ℕ × ℕ × ℕ} (a, b, c) (a', b', c') = cc in
+    (ap (λ (p : ℕ × ℕ × ℕ). p.0) t, ap (λ (p : ℕ × ℕ × ℕ). p.1) t, ap (λ (p : ℕ × ℕ × ℕ). p.2) t)
 
 abbrev pub Sized : ℕ → ℕ → Type 0
 Sized len m = (0 < len) × (len ≤ m)
@@ -49,13 +55,14 @@ pub record Read (s : List ℕ) (at bits lost next : ℕ) : Type 0 where
   pub within : next ≤ length s
   pub small : (mode : Mode) → nat_abs (number_of (value_of mode bits lost)) ≤ 2 ^ 62
 
-answered : (s : List ℕ) (at : ℕ) (t : Digits) (bits lost next : ℕ) → digits_from 13 (drop at s) ≡ t → vlq_from at t ≡ Value bits lost next → Read s at bits lost next
+answered : (s : List ℕ) (at : ℕ) (t : Digits) (bits lost next : ℕ) → digits_from 13 (drop at s) ≡ t → vlq_from at t ≡ Ok (Some (bits, lost, next)) → Read s at bits lost next
 answered s at (cut k) bits lost next q e = absurd (zero_one cc)
 answered s at (long k) bits lost next q e = absurd (zero_one cc)
 answered s at (num n len) bits lost next q e =
     let p = tail_size (drop at s) 13 n len q in
-    let m : at + len ≡ next = cc in
-    let w : n % 2 ^ 64 ≡ bits = cc in
+    let q' = parts (n % 2 ^ 64) (n / 2 ^ 64) (at + len) bits lost next e in
+    let m : at + len ≡ next = q'.2 in
+    let w : n % 2 ^ 64 ≡ bits = q'.0 in
     let l = length-drop at s in
     record {
       past = omega (arith, p.0);
@@ -63,29 +70,30 @@ answered s at (num n len) bits lost next q e =
       small = λ mode. value_range mode bits lost (omega arith);
     }
 
-delimited : (t : Bool) (s : List ℕ) (at bits lost next : ℕ) → pick t End (vlq_from at (digits_from 13 (drop at s))) ≡ Value bits lost next → Read s at bits lost next
+delimited : (t : Bool) (s : List ℕ) (at bits lost next : ℕ) → pick t (Ok None) (vlq_from at (digits_from 13 (drop at s))) ≡ Ok (Some (bits, lost, next)) → Read s at bits lost next
 delimited true s at bits lost next e = absurd (zero_one cc)
 delimited false s at bits lost next e = answered s at (digits_from 13 (drop at s)) bits lost next refl e
 
-headed : (l s : List ℕ) (at bits lost next : ℕ) → drop at s ≡ l → vlq_of at l ≡ Value bits lost next → Read s at bits lost next
+headed : (l s : List ℕ) (at bits lost next : ℕ) → drop at s ≡ l → vlq_of at l ≡ Ok (Some (bits, lost, next)) → Read s at bits lost next
 unfolding vlq_of
 headed [] s at bits lost next q e = absurd (zero_one cc)
 headed (b ∷ bs) s at bits lost next q e = delimited (is_delim b) s at bits lost next (rw q e)
 
-pub value : (s : List ℕ) (at bits lost next : ℕ) → vlq_at s at ≡ Value bits lost next → Read s at bits lost next
+pub value : (s : List ℕ) (at bits lost next : ℕ) → vlq_at s at ≡ Ok (Some (bits, lost, next)) → Read s at bits lost next
 value s at bits lost next e = headed (drop at s) s at bits lost next refl e
 
 -- the bits of a value are 64
-answer_bits : (at : ℕ) (t : Digits) (bits lost next : ℕ) → vlq_from at t ≡ Value bits lost next → bits < 2 ^ 64
+answer_bits : (at : ℕ) (t : Digits) (bits lost next : ℕ) → vlq_from at t ≡ Ok (Some (bits, lost, next)) → bits < 2 ^ 64
 answer_bits at (cut k) bits lost next e = absurd (zero_one cc)
 answer_bits at (long k) bits lost next e = absurd (zero_one cc)
-answer_bits at (num n len) bits lost next e = let w : n % 2 ^ 64 ≡ bits = cc in omega arith
+answer_bits at (num n len) bits lost next e =
+    let w : n % 2 ^ 64 ≡ bits = (parts (n % 2 ^ 64) (n / 2 ^ 64) (at + len) bits lost next e).0 in omega arith
 
-bits_by : (t : Bool) (at : ℕ) (l : List ℕ) (bits lost next : ℕ) → pick t End (vlq_from at (digits_from 13 l)) ≡ Value bits lost next → bits < 2 ^ 64
+bits_by : (t : Bool) (at : ℕ) (l : List ℕ) (bits lost next : ℕ) → pick t (Ok None) (vlq_from at (digits_from 13 l)) ≡ Ok (Some (bits, lost, next)) → bits < 2 ^ 64
 bits_by true at l bits lost next e = absurd (zero_one cc)
 bits_by false at l bits lost next e = answer_bits at (digits_from 13 l) bits lost next e
 
-pub value_bits : (at : ℕ) (l : List ℕ) (bits lost next : ℕ) → vlq_of at l ≡ Value bits lost next → bits < 2 ^ 64
+pub value_bits : (at : ℕ) (l : List ℕ) (bits lost next : ℕ) → vlq_of at l ≡ Ok (Some (bits, lost, next)) → bits < 2 ^ 64
 unfolding vlq_of
 value_bits at [] bits lost next e = absurd (zero_one cc)
 value_bits at (b ∷ bs) bits lost next e = bits_by (is_delim b) at (b ∷ bs) bits lost next e
@@ -122,21 +130,22 @@ tail_under (b ∷ bs) left n len e =
     e
 
 -- a number of at most four digits is below 2^20
-under_by : (at : ℕ) (l : List ℕ) (t : Digits) (bits count : ℕ) → digits_from 13 l ≡ t → vlq_from at t ≡ Value bits 0 (at + count) → count ≤ 4 → bits < 2 ^ 20
+under_by : (at : ℕ) (l : List ℕ) (t : Digits) (bits count : ℕ) → digits_from 13 l ≡ t → vlq_from at t ≡ Ok (Some (bits, 0, at + count)) → count ≤ 4 → bits < 2 ^ 20
 under_by at l (cut k) bits count q e h = absurd (zero_one cc)
 under_by at l (long k) bits count q e h = absurd (zero_one cc)
 under_by at l (num n len) bits count q e h =
-    let w : n % 2 ^ 64 ≡ bits = cc in
-    let m : at + len ≡ at + count = cc in
+    let q' = parts (n % 2 ^ 64) (n / 2 ^ 64) (at + len) bits 0 (at + count) e in
+    let w : n % 2 ^ 64 ≡ bits = q'.0 in
+    let m : at + len ≡ at + count = q'.2 in
     let u : n < 2 ^ (5 * len) = tail_under l 13 n len q in
     let p : 2 ^ (5 * len) ≤ 2 ^ 20 = pow_mono {i = 5 * len} {j = 20} (omega arith) in
     omega arith
 
-few_by : (t : Bool) (at : ℕ) (l : List ℕ) (bits count : ℕ) → pick t End (vlq_from at (digits_from 13 l)) ≡ Value bits 0 (at + count) → count ≤ 4 → bits < 2 ^ 20
+few_by : (t : Bool) (at : ℕ) (l : List ℕ) (bits count : ℕ) → pick t (Ok None) (vlq_from at (digits_from 13 l)) ≡ Ok (Some (bits, 0, at + count)) → count ≤ 4 → bits < 2 ^ 20
 few_by true at l bits count e h = absurd (zero_one cc)
 few_by false at l bits count e h = under_by at l (digits_from 13 l) bits count refl e h
 
-pub few_under : (at : ℕ) (l : List ℕ) (bits count : ℕ) → vlq_of at l ≡ Value bits 0 (at + count) → count ≤ 4 → bits < 2 ^ 20
+pub few_under : (at : ℕ) (l : List ℕ) (bits count : ℕ) → vlq_of at l ≡ Ok (Some (bits, 0, at + count)) → count ≤ 4 → bits < 2 ^ 20
 unfolding vlq_of
 few_under at [] bits count e h = absurd (zero_one cc)
 few_under at (b ∷ bs) bits count e h = few_by (is_delim b) at (b ∷ bs) bits count e h

@@ -1,23 +1,25 @@
 -- Helpers: what inner contracts and proofs need; no contract of an entry and no theorem reaches this file.
--- What the way for numbers of few digits owes the reader: where it counts any digits, the number stands there; and what it makes of
--- four bytes at once. Assumes nothing.
-use Rattle.std.specs.Prelude.{List, ◌≡◌, ℕ, ◌+◌, ◌-◌, ◌*◌, ◌/◌, ◌%◌, ◌<◌, ◌≤◌, ltb, length, get_or}
+-- What the way for numbers of few digits owes the reader: where it gives a number, that stands there; and what it makes of four bytes at
+-- once. Assumes nothing.
+use Rattle.std.specs.Prelude.{List, ◌≡◌, ℕ, ◌+◌, ◌-◌, ◌*◌, ◌/◌, ◌%◌, ◌<◌, ◌≤◌, ltb, length, get_or, Some, Ok}
 use Rattle.std.specs.Int.Bits.{bit_and, bit_or, bit_xor}
 use Rattle.std.specs.Int.Count.{count_trailing_zeros}
 use Rattle.list.specs.Pick.{pick}
 use Rattle.digits.specs.Digits.{within}
 use Rattle.digits.specs.Tables.{word}
 use Rattle.vlq.specs.Vlq.{vlq_at}
-use Rattle.vlq.specs.declared.Vlq.TheVariants.{Value}
+use Rattle.vlq.specs.declared.Few.{Few}
 
-abbrev pub FewAt : List ℕ → ℕ → ℕ → ℕ → Type 0
-FewAt s at bits count = 0 < count → vlq_at s at ≡ Value bits 0 (at + count)
+-- a number of four digits at the most stands at a place
+pub record FewAt (s : List ℕ) (at : ℕ) (f : Few) : Type 0 where
+  pub short : f.count ≤ 4
+  pub reads : vlq_at s at ≡ Ok (Some (f.bits, 0, at + f.count))
 
 -- the same of a number that is the four bytes at that place
-abbrev pub FewIn : ℕ → ℕ → ℕ → Type 0
-FewIn w bits count =
+abbrev pub FewIn : ℕ → Few → Type 0
+FewIn w f =
     (s : List ℕ) (at : ℕ) → at + 4 ≤ length s → ((i : ℕ) → get_or s i 0 < 256)
-    → w ≡ word (get_or s at 0) (get_or s (at + 1) 0) (get_or s (at + 2) 0) (get_or s (at + 3) 0) → FewAt s at bits count
+    → w ≡ word (get_or s at 0) (get_or s (at + 1) 0) (get_or s (at + 2) 0) (get_or s (at + 3) 0) → FewAt s at f
 
 -- each of the four bytes is below 128
 abbrev pub Plain : ℕ → Type 0

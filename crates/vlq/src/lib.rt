@@ -1,25 +1,16 @@
 // Reads the digits of one value.
 #![tactic(auto)]
 
-ghost use Rattle.std.specs.Prelude.{◌≡◌, ◌+◌, ◌*◌, ◌/◌, ◌%◌, ◌^◌, ◌<◌, ◌≤◌, eqb, length};
+ghost use Rattle.std.specs.Prelude.{◌≡◌, ◌+◌, ◌*◌, ◌/◌, ◌%◌, ◌^◌, ◌<◌, ◌≤◌, eqb, IfSome, length};
 ghost use Rattle.list.specs.Pick.{pick};
 ghost use Rattle.vlq.specs.Vlq.{vlq_at};
 ghost use Rattle.vlq.specs.Several.{FewAt, FewIn, Plain, each, end_of, high_of, low_of, bad_of, five_of, bits_of, count_of};
 
-// What stands at a place of the text: nothing more of its segment; a number, as its low 64 bits, the bit above them and
-// the place after it; or no number, with the place where it broke.
+// Where a value broke: cut short, or too long.
 #[derive(Clone, Copy)]
-pub enum Vlq {
-    End,
-    Value(u64, u64, usize),
+pub enum Broken {
     Leftover(usize),
     Overflow(usize),
-}
-
-fn wide(x: u8) -> u64
-    ensures { result ≡ x }
-{
-    x as u64
 }
 
 // What the digit `d`, after `k` others, pushes out of 64 bits: the top one of the thirteenth digit's five.
@@ -41,7 +32,7 @@ fn put_digit(cur: u64, k: u64, d: u64) -> u64
     cur + ((d % 32 - 16 * lost) << (5 * k))
 }
 
-// A number of few digits: its bits and how many they are, 0 where that is not known.
+// A number of few digits: its bits, and how many digits it has.
 #[derive(Clone, Copy)]
 pub struct Few {
     pub bits: u64,
@@ -107,17 +98,17 @@ fn count_of(f: u32) -> usize
     (u32::trailing_zeros(f) / 8 + 1) as usize
 }
 
-// A number that ends within four bytes. How many digits it has is as good as random, so that it is data and no branch. The tests are
-// sufficient and no more.
-fn few_of(w: u32) -> Few
-    ensures { (result.count ≤ 4) × FewIn w result.bits result.count }
+// A number that ends within four bytes, or none where that is not known. How many digits it has is as good as random, so that it is data
+// and no branch. The tests are sufficient and no more.
+fn few_of(w: u32) -> Option<Few>
+    ensures { IfSome result (FewIn w) }
 {
     if (w & 0x8080_8080) != 0 {
-        return Few { bits: 0, count: 0 };
+        return None;
     }
     let f = ends_of(w);
     if f == 0 {
-        return Few { bits: 0, count: 0 };
+        return None;
     }
     // All bits of the bytes up to the first that ends a value.
     let m = f ^ (f - 1);
@@ -125,55 +116,53 @@ fn few_of(w: u32) -> Few
     let u = low_of(w);
     let bad = bad_of(w, l, u);
     if (bad & m) != 0 {
-        return Few { bits: 0, count: 0 };
+        return None;
     }
-    Few {
+    Some(Few {
         bits: bits_of(fives_of(w, l, u) & m),
         count: count_of(f),
-    }
+    })
 }
 
-pub fn few_digits(s: &[u8], at: usize) -> Few
+pub fn few_digits(s: &[u8], at: usize) -> Option<Few>
     requires { at + 4 ≤ length s.now }
-    ensures { (result.count ≤ 4) × FewAt s.now at result.bits result.count }
+    ensures { IfSome result (FewAt s.now at) }
 {
     few_of(digits::four_of(s, at))
 }
 
-// At most thirteen digits. A delimiter or the end where a digit is due comes before a fourteenth.
-pub fn next_vlq(s: &[u8], at: usize) -> Vlq
+// What stands at a place of the text: nothing more of its segment; or a number, as its low 64 bits, the bit above them and the place
+// after it. At most thirteen digits: a delimiter or the end where a digit is due comes before a fourteenth.
+pub fn next_vlq(s: &[u8], at: usize) -> Result<Option<(u64, u64, usize)>, Broken>
     ensures { result ≡ vlq_at s.now at }
 {
     if s.len() <= at {
-        return Vlq::End;
+        return Ok(None);
     }
     if digits::is_delim(s[at]) {
-        return Vlq::End;
+        return Ok(None);
     }
     if at + 4 <= s.len() {
-        let few = few_digits(s, at);
-        if 0 < few.count {
-            return Vlq::Value(few.bits, 0, at + few.count);
+        if let Some(few) = few_digits(s, at) {
+            return Ok(Some((few.bits, 0, at + few.count)));
         }
     }
     let mut cur: u64 = 0;
     let mut k: u64 = 0;
-    let mut i = at;
-    while i < s.len() {
+    for i in at..s.len() {
         let d = digits::code_of(s[i]);
         if d == 64 {
-            return Vlq::Leftover(i);
+            return Err(Broken::Leftover(i));
         }
         if 13 <= k {
-            return Vlq::Overflow(i);
+            return Err(Broken::Overflow(i));
         }
-        let next = put_digit(cur, k, wide(d));
+        let next = put_digit(cur, k, d as u64);
         if d < 32 {
-            return Vlq::Value(next, lost_of(k, wide(d)), i + 1);
+            return Ok(Some((next, lost_of(k, d as u64), i + 1)));
         }
         cur = next;
         k += 1;
-        i += 1;
     }
-    Vlq::Leftover(i)
+    Err(Broken::Leftover(s.len()))
 }

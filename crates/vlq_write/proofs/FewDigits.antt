@@ -11,12 +11,6 @@ use Rattle.vlq_write.proofs.Digits.{few}
 use Rattle.vlq_write.proofs.Loop.{Writing, start, turn, last}
 use Rattle.vlq_write.proofs.Sizes.{either, is_under, is_over}
 
-pub ends : (n : ℕ) → n < 32 → GoesOn n 0
-ends n h = record { is = rw (lt-ltb n 32 h); most = omega arith }
-
-pub goes : (n : ℕ) → 32 ≤ n → GoesOn n 32
-goes n h = record { is = rw (le-ltb n 32 h); most = omega arith }
-
 -- k is what is added and x the character, as the code has them
 pub low_char_is : (n k x : ℕ) → GoesOn n k → x ≡ char_of (n % 32 + k) → x ≡ low_char n
 unfolding low_char

@@ -20,13 +20,6 @@ sized (suc k) (suc f) n b h l =
     ∙ ap (λ (m : ℕ). m + 1) (sized k f (n / 32) (omega (arith, pow_pos (5 * k))) (omega arith) (omega arith))
     ∙ omega arith
 
--- as the code has it
-pub under : (v m : ℕ) → v < m → Reaches v m 0
-under v m h = record { is = rw (lt-ltb v m h); flag = omega arith }
-
-pub over : (v m : ℕ) → m ≤ v → Reaches v m 1
-over v m h = record { is = rw (le-ltb v m h); flag = omega arith }
-
 pub is_under : (v m a : ℕ) → Reaches v m a → v < m → a ≡ 0
 is_under v m a r h = r.is ∙ rw (lt-ltb v m h)
 

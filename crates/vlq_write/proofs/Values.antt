@@ -1,17 +1,18 @@
 -- The step from one number to another: as the code makes it, its range, and that it is read back. Assumes nothing.
 use Rattle.std.proofs.Common.{◌≡◌, ℕ, zero, suc, ◌+◌, ◌-◌, ◌*◌, ◌/◌, ◌%◌, ◌^◌, ◌<◌, ◌≤◌, Bool, true, false, ltb, pos, negsuc, ◌-ℤ◌, refl, ap, arith, ltb-false, ltb-true, le-ltb, lt-ltb, eq-eqb, ne_eqb}
+use Rattle.std.specs.Int.{abs_diff, from_bool}
 use Rattle.list.specs.Pick.{pick}
 use Rattle.value.specs.Value.{sign_of}
 use Rattle.vlq_write.specs.Write.{vlq_value}
 
-made_by : (t : Bool) (x y m n : ℕ) → m ≡ pick t x y → n ≡ pick t 1 0 → m * 2 + n ≡ pick t (x * 2 + 1) (y * 2)
-made_by true x y m n em en = omega arith
-made_by false x y m n em en = omega arith
+made_by : (t : Bool) (a b : ℕ) → ltb a b ≡ t → abs_diff a b * 2 + from_bool t ≡ pick t ((b - a) * 2 + 1) ((a - b) * 2)
+made_by true a b e = omega (arith, ltb-true a b e)
+made_by false a b e = omega (arith, ltb-false a b e)
 
 -- the size doubled, and the sign
-pub made : (a b m n : ℕ) → m ≡ pick (ltb a b) (b - a) (a - b) → n ≡ pick (ltb a b) 1 0 → m * 2 + n ≡ vlq_value a b
+pub made : (a b : ℕ) → abs_diff a b * 2 + from_bool (ltb a b) ≡ vlq_value a b
 unfolding vlq_value
-made a b m n em en = made_by (ltb a b) (b - a) (a - b) m n em en
+made a b = made_by (ltb a b) a b refl
 
 small_by : (t : Bool) (a b : ℕ) → a < 2 ^ 32 → b < 2 ^ 32 → pick t ((b - a) * 2 + 1) ((a - b) * 2) < 2 ^ 33
 small_by true a b h l = omega arith
@@ -21,10 +22,6 @@ small_by false a b h l = omega arith
 pub value_small : (a b : ℕ) → a < 2 ^ 32 → b < 2 ^ 32 → vlq_value a b < 2 ^ 33
 unfolding vlq_value
 value_small a b h l = small_by (ltb a b) a b h l
-
--- the sum fits 64 bits
-pub sum_fits : (a b m n : ℕ) → a < 2 ^ 32 → b < 2 ^ 32 → m ≡ pick (ltb a b) (b - a) (a - b) → n ≡ pick (ltb a b) 1 0 → m * 2 + n < 2 ^ 64
-sum_fits a b m n h l em en = rw (made a b m n em en) (omega (arith, value_small a b h l))
 
 pub value_none : (a : ℕ) → vlq_value a a ≡ 0
 unfolding vlq_value

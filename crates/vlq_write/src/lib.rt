@@ -4,39 +4,36 @@
 ghost use Rattle.std.specs.Prelude.{◌≡◌, ◌+◌, ◌-◌, ◌^◌, ◌<◌, ◌≤◌, length, ◌==◌, nat_lt};
 ghost use Rattle.list.specs.Pick.{pick};
 ghost use Rattle.digits.specs.Digits.{char_of};
-ghost use Rattle.digits.specs.Tables.{writing};
 ghost use Rattle.list.specs.Put.{Put};
 ghost use Rattle.vlq_write.specs.Few.{Few, GoesOn, low_char};
-ghost use Rattle.vlq_write.specs.Near.{near_writing, Off};
+ghost use Rattle.vlq_write.specs.Near.{Off};
 ghost use Rattle.vlq_write.specs.Size.{Reaches, StepSize};
 ghost use Rattle.vlq_write.specs.Write.{vlq_value, write_of};
 
+// The characters of the digits. A constant array is made anew at each use, and a static is not.
+static B64_CHARS: [u8; 64] = digits::B64_CHARS;
+
 // The characters of the steps from -15 to 15, which take one digit.
-pub const B64_NEAR: [u8; 31] = *b"fdbZXVTRPNLJHFDACEGIKMOQSUWYace";
+pub static B64_NEAR: [u8; 31] = *b"fdbZXVTRPNLJHFDACEGIKMOQSUWYace";
 
-fn apart(a: u32, b: u32) -> u32
-    ensures { result ≡ pick (nat_lt a b) (b - a) (a - b) }
+fn digit_char(d: u64) -> u8
+    requires { d < 64 }
+    ensures { result ≡ char_of d }
 {
-    if a < b { b - a } else { a - b }
-}
-
-fn less(a: u32, b: u32) -> u64
-    ensures { result ≡ pick (nat_lt a b) 1 0 }
-{
-    if a < b { 1 } else { 0 }
+    digits::char_in(&B64_CHARS, d)
 }
 
 // The step from `b` to `a`. Which way it goes is as good as random, so size and sign are data and no branch.
 pub fn vlq_value(a: u32, b: u32) -> u64
     ensures { result ≡ vlq_value a b }
 {
-    apart(a, b) as u64 * 2 + less(a, b)
+    a.abs_diff(b) as u64 * 2 + u64::from(a < b)
 }
 
 fn over(v: u64, m: u64) -> u64
     ensures { Reaches v m result }
 {
-    if v < m { 0 } else { 1 }
+    u64::from(m <= v)
 }
 
 // One branch, on whether the digits are more than two; how many they are then is data.
@@ -58,19 +55,18 @@ pub fn step_size(a: u32, b: u32) -> u64
 }
 
 // Writes the digits of `num` from `at` on, and gives the place after them.
-pub fn encode_vlq(w: &[u8; 64], out: &mut [u8], at: usize, num: u64) -> usize
-    requires w_value { w.now ≡ writing }
-    requires num_in_bounds { at + length (write_of num) ≤ length out.old }
+pub fn encode_vlq(out: &mut [u8], at: usize, num: u64) -> usize
+    requires { at + length (write_of num) ≤ length out.old }
     ensures { Put out.old at (write_of num) result out.new }
 {
     let mut n = num;
     let mut i = at;
     while 32 <= n {
-        out[i] = digits::char_in(w, n % 32 + 32);
-        n = n / 32;
+        out[i] = digit_char(n % 32 + 32);
+        n /= 32;
         i += 1;
     }
-    out[i] = digits::char_in(w, n);
+    out[i] = digit_char(n);
     i + 1
 }
 
@@ -82,11 +78,10 @@ fn goes_on(n: u64) -> u64
 }
 
 // The character of the lowest digit of `n`.
-fn low_char(w: &[u8; 64], n: u64) -> u8
-    requires { w.now ≡ writing }
+fn low_char(n: u64) -> u8
     ensures { result ≡ low_char n }
 {
-    digits::char_in(w, n % 32 + goes_on(n))
+    digit_char(n % 32 + goes_on(n))
 }
 
 // The character `c` where the value has such a digit, else the byte that stands there.
@@ -98,8 +93,7 @@ fn kept(n: u64, c: u8, old: u8) -> u8
 
 // Writes two, three or four digits by four stores. How many they are is as good as random, so that it is data and no
 // branch: the last two stores put back the byte that stands there where there is no such digit.
-fn put_few(w: &[u8; 64], out: &mut [u8], at: usize, num: u64) -> usize
-    requires w_value { w.now ≡ writing }
+fn put_few(out: &mut [u8], at: usize, num: u64) -> usize
     requires few { Few num }
     requires at_in_bounds { at + 4 ≤ length out.old }
     ensures { Put out.old at (write_of num) result out.new }
@@ -107,11 +101,11 @@ fn put_few(w: &[u8; 64], out: &mut [u8], at: usize, num: u64) -> usize
     let n1 = num / 32;
     let n2 = n1 / 32;
     let n3 = n2 / 32;
-    out[at] = digits::char_in(w, num % 32 + 32);
-    out[at + 1] = low_char(w, n1);
-    let c2 = low_char(w, n2);
+    out[at] = digit_char(num % 32 + 32);
+    out[at + 1] = low_char(n1);
+    let c2 = low_char(n2);
     out[at + 2] = kept(n2, c2, out[at + 2]);
-    let c3 = digits::char_in(w, n3 % 32);
+    let c3 = digit_char(n3 % 32);
     out[at + 3] = kept(n3, c3, out[at + 3]);
     at + 2 + over(n1, 32) as usize + over(n2, 32) as usize
 }
@@ -120,35 +114,31 @@ fn put_few(w: &[u8; 64], out: &mut [u8], at: usize, num: u64) -> usize
 fn off(a: u32, b: u32) -> u64
     ensures { Off a b result }
 {
-    std::num::wrapping_sub_u64(a as u64 + 15, b as u64)
+    (a as u64 + 15).wrapping_sub(b as u64)
 }
 
-fn near_char(near: &[u8; 31], x: u64) -> u8
-    requires near_value { near.now ≡ near_writing }
-    requires x_bound { x < 31 }
+fn near_char(x: u64) -> u8
+    requires { x < 31 }
     ensures { result ≡ char_of (vlq_value x 15) }
 {
-    near[x as usize]
+    B64_NEAR[x as usize]
 }
 
 // Writes the step from `b` to `a`. Most take one digit, which a table gives for the difference: neither size nor sign is
 // made for them.
-pub fn put_step(w: &[u8; 64], near: &[u8; 31], out: &mut [u8], at: usize, a: u32, b: u32) -> usize
-    requires w_value { w.now ≡ writing }
-    requires near_value { near.now ≡ near_writing }
-    requires b_in_bounds { at + length (write_of (vlq_value a b)) ≤ length out.old }
+#[inline]
+pub fn put_step(out: &mut [u8], at: usize, a: u32, b: u32) -> usize
+    requires { at + length (write_of (vlq_value a b)) ≤ length out.old }
     ensures { Put out.old at (write_of (vlq_value a b)) result out.new }
 {
     let x = off(a, b);
     if x < 31 {
-        out[at] = near_char(near, x);
+        out[at] = near_char(x);
         return at + 1;
     }
     let v = vlq_value(a, b);
-    if v < 1048576 {
-        if 4 <= out.len() - at {
-            return put_few(w, out, at, v);
-        }
+    if v < 1048576 && 4 <= out.len() - at {
+        return put_few(out, at, v);
     }
-    encode_vlq(w, out, at, v)
+    encode_vlq(out, at, v)
 }

@@ -1,37 +1,17 @@
 // Runs the writer on the tables of docs/RULES.md's worked texts, whole, cut and refused, and prints what it wrote.
 #![tactic(auto)]
 
+use code::Answer;
 use std::io;
 use token::TokenChunk;
 
-// The tokens from `start` up to `end`, after a token on `line`, and zeros else.
-fn after_line(line: u32, start: u32, end: u32) -> TokenChunk {
+// The tokens from `start` up to `end`, after zeros.
+fn zeros(start: u32, end: u32) -> TokenChunk {
     TokenChunk {
         start,
         end,
-        prev_dst_line: line,
-        prev_dst_col: 0,
-        prev_src_line: 0,
-        prev_src_col: 0,
-        prev_name_id: 0,
-        prev_source_id: 0,
+        ..TokenChunk::default()
     }
-}
-
-fn zeros(start: u32, end: u32) -> TokenChunk {
-    after_line(0, start, end)
-}
-
-// The tokens from where `p` ends, up to `end`.
-fn upto(p: TokenChunk, end: u32) -> TokenChunk {
-    let mut r = p;
-    r.end = end;
-    r
-}
-
-fn print_number(rt: &impl Print, n: u64, after: &[u8]) -> io::Result<()> {
-    rt.print(n)?;
-    rt.write_all(after)
 }
 
 // The code, its number, and the text; then the state for the next chunk.
@@ -41,15 +21,19 @@ fn run(
     chunk: TokenChunk,
     out: &mut [u8],
 ) -> io::Result<TokenChunk> {
-    let r = encode::serialize_mappings(table, chunk, out);
-    let code = r.code;
-    let n = r.bytes;
-    let next = r.next;
-    print_number(rt, code::code_of(code), b" ")?;
-    print_number(rt, code::number_of(code), b" ")?;
-    rt.write_all(&out[..n])?;
-    rt.write_all(b"\n")?;
-    Ok(next)
+    match encode::serialize_mappings(table, chunk, out) {
+        Ok(written) => {
+            print!(rt; "0 0 ")?;
+            rt.write_all(&out[..written.bytes])?;
+            println!(rt)?;
+            Ok(written.next)
+        }
+        Err(c) => {
+            let a = Answer::from(c);
+            println!(rt; "{} {} ", a.code, a.number)?;
+            Ok(chunk)
+        }
+    }
 }
 
 fn main(rt: HostRuntime) -> io::Result<()> {
@@ -60,16 +44,20 @@ fn main(rt: HostRuntime) -> io::Result<()> {
     let mut out = [0u8; 64];
     run(&rt, &pair, zeros(0, 2), &mut out)?;
     let cut = run(&rt, &pair, zeros(0, 1), &mut out)?;
-    run(&rt, &pair, upto(cut, 2), &mut out)?;
+    run(&rt, &pair, TokenChunk { end: 2, ..cut }, &mut out)?;
     run(&rt, &twins, zeros(0, 2), &mut out)?;
     let half = run(&rt, &twins, zeros(0, 1), &mut out)?;
-    run(&rt, &twins, upto(half, 2), &mut out)?;
+    run(&rt, &twins, TokenChunk { end: 2, ..half }, &mut out)?;
     let mut five = [0u8; 5];
     run(&rt, &pair, zeros(0, 2), &mut five)?;
     let mut six = [0u8; 6];
     run(&rt, &pair, zeros(0, 2), &mut six)?;
     run(&rt, &pair, zeros(2, 1), &mut out)?;
     run(&rt, &pair[..12], zeros(0, 1), &mut out)?;
-    run(&rt, &pair, after_line(1, 0, 2), &mut out)?;
+    let behind = TokenChunk {
+        prev_dst_line: 1,
+        ..zeros(0, 2)
+    };
+    run(&rt, &pair, behind, &mut out)?;
     Ok(())
 }

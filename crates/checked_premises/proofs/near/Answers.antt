@@ -1,9 +1,6 @@
 -- `checked_premises::near` meets its contract. Assumes nothing.
-use Rattle.checked_premises.proofs.Laws.{down, up}
+use Rattle.checked_premises.proofs.Laws.{near_is}
 use Rattle.checked_premises.proofs.near.Goals as goal
 
-pub returns-then-a-b : goal.returns-then-a-b
-returns-then-a-b c = down _ _ c.if-a-b.true
-
 pub returns : goal.returns
-returns c = up _ _ c.if-a-b.false
+returns c = near_is _ _ _ c.abs_diff.ensures

@@ -1,34 +1,25 @@
-use native.Mathlib.Omega.{arith}
+use Rattle.std.proofs.Common.{arith, rules}
 use Rattle.chunk.proofs.State.{small_token, small_state}
 use Rattle.encode.proofs.Measure.{measuring, measured_all, measured_back, measure_fits, measure_next}
 use Rattle.encode.proofs.measured.Goals as goal
 
 pub loop-i-init : goal.loop-i-init
-loop-i-init c = measuring _ _ (small_state _ c.struct_known-1.given) c.requires
+loop-i-init c = measuring _ _ (small_state _ (search rules)) c.requires
 
 pub token_at-t-requires : goal.token_at-t-requires
 token_at-t-requires c = omega (arith, c.loop-i.invariant.inside.within)
 
 pub overflow_cast-result : goal.overflow_cast-result
-overflow_cast-result c = omega (arith, c.struct_known-1.given.1.0.fits)
+overflow_cast-result c = omega arith
 
 pub returns-then-t-p : goal.returns-then-t-p
 returns-then-t-p c = measured_back _ _ _ _ _ c.loop-i.invariant _ c.token_at-t.ensures c.loop-i-test.true c.if-t-p.true
 
-pub token_size-n-requires : goal.token_size-n-requires
-token_size-n-requires c = c.if-t-p.false
-
 pub overflow_add-n : goal.overflow_add-n
-overflow_add-n c = record { fits = measure_fits _ _ _ _ _ c.loop-i.invariant _ c.token_at-t.ensures c.loop-i-test.true c.if-t-p.false (small_token _ c.struct_known-in-loop-i-2-1.given) _ c.token_size-n.ensures c.struct_known-1.given.1.0.fits }
-
-pub overflow_add-i : goal.overflow_add-i
-overflow_add-i c = omega (arith, c.struct_known-1.given.1.0.fits)
-
-pub loop-i-smaller : goal.loop-i-smaller
-loop-i-smaller c = omega arith
+overflow_add-n c = record { fits = measure_fits _ _ _ _ _ c.loop-i.invariant _ c.token_at-t.ensures c.loop-i-test.true c.if-t-p.false (small_token _ (search rules)) _ c.token_size-n.ensures (omega arith) }
 
 pub loop-i-preserved : goal.loop-i-preserved
-loop-i-preserved c = measure_next _ _ _ _ _ c.loop-i.invariant _ c.token_at-t.ensures c.loop-i-test.true c.if-t-p.false (small_token _ c.struct_known-in-loop-i-2-1.given) _ c.token_size-n.ensures _ c.after-p.ensures
+loop-i-preserved c = measure_next _ _ _ _ _ c.loop-i.invariant _ c.token_at-t.ensures c.loop-i-test.true c.if-t-p.false (small_token _ (search rules)) _ c.token_size-n.ensures _ c.after-p.ensures
 
 pub returns : goal.returns
 returns c = measured_all _ _ _ _ _ c.loop-i.invariant c.loop-i-test.false

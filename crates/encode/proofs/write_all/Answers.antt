@@ -1,21 +1,16 @@
 use native.Mathlib.Omega.{arith}
+use mathlib.Core.Path.{refl}
 use Rattle.encode.proofs.Write.{writing, written_long, written_all, write_line, write_fits, write_next}
 use Rattle.encode.proofs.write_all.Goals as goal
 
 pub loop-i-init : goal.loop-i-init
-loop-i-init c = writing _ _ _ c.requires.writable
+loop-i-init c = writing _ _ _ c.requires
 
 pub token_at-t-requires : goal.token_at-t-requires
 token_at-t-requires c = omega (arith, c.loop-i.invariant.forward.inside.within)
 
 pub put_token-at-requires : goal.put_token-at-requires
-put_token-at-requires c = record { w_value = c.requires.w_value; near_value = c.requires.near_value; prev_dst_line_bound = write_line _ _ _ _ _ _ _ c.loop-i.invariant _ c.token_at-t.ensures c.loop-i-test.true; t_in_bounds = write_fits _ _ _ _ _ _ _ c.loop-i.invariant _ c.token_at-t.ensures c.loop-i-test.true }
-
-pub overflow_add-i : goal.overflow_add-i
-overflow_add-i c = omega (arith, c.struct_known-1.given.1.0.fits)
-
-pub loop-i-smaller : goal.loop-i-smaller
-loop-i-smaller c = omega arith
+put_token-at-requires c = record { prev_dst_line_bound = write_line _ _ _ _ _ _ _ c.loop-i.invariant _ c.token_at-t.ensures c.loop-i-test.true; t_in_bounds = write_fits _ _ _ _ _ _ _ c.loop-i.invariant _ c.token_at-t.ensures c.loop-i-test.true }
 
 pub loop-i-preserved : goal.loop-i-preserved
 loop-i-preserved c = write_next _ _ _ _ _ _ _ c.loop-i.invariant _ c.token_at-t.ensures c.loop-i-test.true _ _ c.put_token-at.ensures _ c.after-p.ensures
@@ -24,4 +19,4 @@ pub shape_of-out : goal.shape_of-out
 shape_of-out c = written_long _ _ _ _ _ _ _ c.loop-i.invariant
 
 pub returns : goal.returns
-returns c = written_all _ _ _ _ _ _ _ c.loop-i.invariant c.loop-i-test.false _ c.moved.ensures
+returns c = written_all _ _ _ _ _ _ _ c.loop-i.invariant c.loop-i-test.false _ refl

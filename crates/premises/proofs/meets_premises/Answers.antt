@@ -9,22 +9,16 @@ pub returns-then-bad_table : goal.returns-then-bad_table
 returns-then-bad_table c = says_no _ _ _ (refuses _ _ _ _ c.bad_table.ensures c.if-bad_table.true)
 
 pub loop-i-init : goal.loop-i-init
-loop-i-init c = begin _ _ _ _ c.bad_table.ensures c.if-bad_table.false
+loop-i-init c = let h = c.default-before.ensures in rw (h.0, h.1.0, h.1.1) (begin _ _ _ _ c.bad_table.ensures c.if-bad_table.false)
 
 pub token_at-t-requires : goal.token_at-t-requires
-token_at-t-requires c = omega (arith, c.places_in-count.ensures)
+token_at-t-requires c = omega (arith, c.places_in-i-end.ensures)
 
 pub returns-then-not-follows_ok : goal.returns-then-not-follows_ok
-returns-then-not-follows_ok c = says_no _ _ _ (stops _ _ _ _ _ _ _ c.loop-i.invariant _ c.places_in-count.ensures c.loop-i-test.true _ c.token_at-t.ensures _ c.follows_ok.ensures (ap not c.if-not-follows_ok.true))
-
-pub overflow_add-i : goal.overflow_add-i
-overflow_add-i c = omega arith
-
-pub loop-i-smaller : goal.loop-i-smaller
-loop-i-smaller c = omega arith
+returns-then-not-follows_ok c = says_no _ _ _ (stops _ _ _ _ _ _ _ c.loop-i.invariant _ c.places_in-i-end.ensures c.loop-i-test.true _ c.token_at-t.ensures _ c.follows_ok.ensures (ap not c.if-not-follows_ok.true))
 
 pub loop-i-preserved : goal.loop-i-preserved
-loop-i-preserved c = goes_on _ _ _ _ _ _ _ c.loop-i.invariant _ c.places_in-count.ensures c.loop-i-test.true _ c.token_at-t.ensures _ c.follows_ok.ensures (ap not c.if-not-follows_ok.false) _ _ c.latest-src_line.ensures c.latest-src_col.ensures
+loop-i-preserved c = goes_on _ _ _ _ _ _ _ c.loop-i.invariant _ c.places_in-i-end.ensures c.loop-i-test.true _ c.token_at-t.ensures _ c.follows_ok.ensures (ap not c.if-not-follows_ok.false) _ c.after-before.ensures
 
 pub returns : goal.returns
-returns c = says_yes _ _ _ (λ i. omega (arith, c.shared_slice_known-1.given i)) (ends _ _ _ _ _ _ _ c.loop-i.invariant _ c.places_in-count.ensures c.loop-i-test.false)
+returns c = says_yes _ _ _ (λ i. (c.type_inv.table i).fits) (ends _ _ _ _ _ _ _ c.loop-i.invariant _ c.places_in-i-end.ensures c.loop-i-test.false)

@@ -1,10 +1,6 @@
 -- `premises::meets_premises` meets its contract. The invariant: what is left of the table decides the whole. Assumes nothing.
-use Prim.Native.Nat.{◌-◌}
 use Rattle.premises.proofs.Laws.{Passing}
 use Rattle.premises.proofs.meets_premises.Given as goal
 
 abbrev pub invariant-loop-i : goal.invariant-loop-i
-invariant-loop-i l = Passing l.table l.sources l.names l.i l.line l.src_line l.src_col
-
-abbrev pub decreases-loop-i : goal.decreases-loop-i
-decreases-loop-i l = l.count - l.i
+invariant-loop-i l = Passing l.table l.sources l.names l.i l.before.line l.before.src_line l.before.src_col

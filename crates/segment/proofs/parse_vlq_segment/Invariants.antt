@@ -3,8 +3,8 @@ use Rattle.segment.proofs.Loop.{Parsing}
 use Rattle.std.proofs.Common.{◌-◌, length}
 use Rattle.segment.proofs.parse_vlq_segment.Given as goal
 
-abbrev pub invariant-loop-nums : goal.invariant-loop-nums
-invariant-loop-nums l = Parsing l.mode l.s l.at l.nums l.wide l.count l.i
+abbrev pub invariant-loop-value : goal.invariant-loop-value
+invariant-loop-value l = Parsing l.mode l.s l.at l.nums l.wide l.count l.i
 
-abbrev pub decreases-loop-nums : goal.decreases-loop-nums
-decreases-loop-nums l = length l.s - l.i
+abbrev pub decreases-loop-value : goal.decreases-loop-value
+decreases-loop-value l = length l.s - l.i

@@ -4,9 +4,6 @@ use lib.Bits.{and_le_l, and_le_r}
 use Rattle.short.proofs.Lanes.{narrow, below_half, flip_fits, ones}
 use Rattle.short.proofs.four_digits.Goals as goal
 
-pub returns-then-high-ne0 : goal.returns-then-high-ne0
-returns-then-high-ne0 c = λ h. absurd (omega arith)
-
 pub overflow_mul-twelves : goal.overflow_mul-twelves
 overflow_mul-twelves c = omega (arith, and_le_r c.args.t 538976288)
 
@@ -19,11 +16,8 @@ overflow_add-over c = omega (arith, below_half c.args.t (narrow c.args.t (omega 
 pub overflow_sub-over : goal.overflow_sub-over
 overflow_sub-over c = omega (arith, flip_fits c.args.t (narrow c.args.t (omega (arith, c.ranges.t)) c.if-high-ne0.false) _ refl)
 
-pub returns-then-over-ne0 : goal.returns-then-over-ne0
-returns-then-over-ne0 c = λ h. absurd (omega arith)
-
 pub overflow_add-result : goal.overflow_add-result
 overflow_add-result c = omega (arith, and_le_l c.args.t 538976288, c.ranges.t)
 
 pub returns : goal.returns
-returns c = λ h. ones c.args.t (narrow c.args.t (omega (arith, c.ranges.t)) c.if-high-ne0.false) _ refl c.if-over-ne0.false
+returns c = ones c.args.t (narrow c.args.t (omega (arith, c.ranges.t)) c.if-high-ne0.false) _ refl c.if-over-ne0.false

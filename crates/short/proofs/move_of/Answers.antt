@@ -5,7 +5,7 @@ use Rattle.short.proofs.move_of.Goals as goal
 
 pub returns-then-bits-eq1 : goal.returns-then-bits-eq1
 unfolding move_of
-returns-then-bits-eq1 c = rw (eq-eqb (c.args.bits % 2) 1 c.if-bits-eq1.true) (omega (arith, c.wrapping_sub_u64.ensures.value, c.ranges.bits))
+returns-then-bits-eq1 c = rw (eq-eqb (c.args.bits % 2) 1 c.if-bits-eq1.true) (omega (arith, c.ranges.bits))
 
 pub returns : goal.returns
 unfolding move_of

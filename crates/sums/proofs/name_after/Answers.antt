@@ -9,12 +9,6 @@ returns-then-sum-lt4294967296 c =
     name_kept a.base a.v c.ranges.v c.sum_of-sum.result (omega arith) c.sum_of-sum.ensures a.mode
     c.if-sum-lt4294967296.true
 
-pub enum_told-1 : goal.enum_told-1
-enum_told-1 c = c.in-Lenient.in-Lenient-own.keys1
-
-pub enum_told-in-Checked : goal.enum_told-in-Checked
-enum_told-in-Checked c = c.in-Checked.in-Checked-own.keys2
-
 pub returns-in-Lenient : goal.returns-in-Lenient
 returns-in-Lenient c =
     let a = c.args in

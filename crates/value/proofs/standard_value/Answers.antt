@@ -1,11 +1,11 @@
 -- `value::standard_value` meets its contract. Assumes nothing.
+use Rattle.std.specs.Prelude.{Some}
 use borrow.Author.Rules.{rules}
 use mathlib.Core.Path.{◌≡◌, sym, ◌∙◌, ap}
 use Prim.Native.Nat.{◌+◌, ◌*◌, ◌^◌}
 use native.Mathlib.Omega.{arith}
 use mir.Syntax.{w64}
 use mir.Facts.{to_z-of_z, to_z_pos}
-use Rattle.value.specs.declared.Judged.TheVariants.{Is}
 use Rattle.value.specs.Standard.{signed, too_wide}
 use Rattle.value.specs.Value.{sign_of}
 use Rattle.value.proofs.Standard.{wide, plain}
@@ -25,6 +25,6 @@ returns-then-bits-eq1 c =
 
 pub returns : goal.returns
 returns c =
-    ap Is (to_z-of_z {w = w64} (search rules) ∙ c.decode_sign.ensures ∙ ap sign_of (to_z_pos w64 {n = c.args.bits} (omega (arith, c.if-bits-ge4294967296.false))))
+    ap Some (to_z-of_z {w = w64} (search rules) ∙ c.decode_sign.ensures ∙ ap sign_of (to_z_pos w64 {n = c.args.bits} (omega (arith, c.if-bits-ge4294967296.false))))
     ∙ sym (plain c.args.bits (omega (arith, c.if-bits-ge4294967296.false)) c.if-bits-eq1.false)
     ∙ ap signed (omega (arith, c.if-lost-gt0.false))

@@ -7,15 +7,6 @@ use Rattle.vlq.proofs.Lanes.{lanes}
 use Rattle.vlq.proofs.Several.{few}
 use Rattle.vlq.proofs.few_of.Goals as goal
 
-pub returns-then-w-ne0 : goal.returns-then-w-ne0
-returns-then-w-ne0 c = (omega arith, λ s at h small is q. absurd (omega arith))
-
-pub returns-then-f-eq0 : goal.returns-then-f-eq0
-returns-then-f-eq0 c = (omega arith, λ s at h small is q. absurd (omega arith))
-
-pub returns-then-bad-m-ne0 : goal.returns-then-bad-m-ne0
-returns-then-bad-m-ne0 c = (omega arith, λ s at h small is q. absurd (omega arith))
-
 pub returns : goal.returns
 returns c =
     few c.args.w (lanes c.args.w (omega (arith, c.ranges.w)) c.if-w-ne0.false)

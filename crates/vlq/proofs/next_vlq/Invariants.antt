@@ -1,11 +1,6 @@
 -- `vlq::next_vlq` meets its contract. Assumes nothing.
 use Rattle.vlq.proofs.Steps.{Reading}
-use lib.ListN.{length}
-use Prim.Native.Nat.{◌-◌}
 use Rattle.vlq.proofs.next_vlq.Given as goal
 
 abbrev pub invariant-loop-i : goal.invariant-loop-i
 invariant-loop-i l = Reading l.s l.at l.cur l.k l.i
-
-abbrev pub decreases-loop-i : goal.decreases-loop-i
-decreases-loop-i l = length l.s - l.i

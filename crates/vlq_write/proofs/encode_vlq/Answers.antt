@@ -3,10 +3,7 @@ use Rattle.vlq_write.proofs.Loop.{start, same, inside, turn, last}
 use Rattle.vlq_write.proofs.encode_vlq.Goals as goal
 
 pub loop-n-init : goal.loop-n-init
-loop-n-init c = start _ _ _ c.requires.num_in_bounds
-
-pub char_in-requires : goal.char_in-requires
-char_in-requires c = record { w_value = c.requires.w_value; d_bound = omega arith }
+loop-n-init c = start _ _ _ c.requires
 
 pub bounds-out-i : goal.bounds-out-i
 bounds-out-i c = inside _ _ _ _ _ _ c.loop-n.invariant
@@ -18,10 +15,7 @@ pub loop-n-smaller : goal.loop-n-smaller
 loop-n-smaller c = omega arith
 
 pub loop-n-preserved : goal.loop-n-preserved
-loop-n-preserved c = turn _ _ _ _ _ _ c.loop-n.invariant _ c.char_in.ensures c.loop-n-test.true
-
-pub char_in-requires-2 : goal.char_in-requires-2
-char_in-requires-2 c = record { w_value = c.requires.w_value; d_bound = omega arith }
+loop-n-preserved c = turn _ _ _ _ _ _ c.loop-n.invariant _ c.digit_char.ensures c.loop-n-test.true
 
 pub bounds-out-i-2 : goal.bounds-out-i-2
 bounds-out-i-2 c = inside _ _ _ _ _ _ c.loop-n.invariant
@@ -33,4 +27,4 @@ pub shape_of-out : goal.shape_of-out
 shape_of-out c = simp length-set (same _ _ _ _ _ _ c.loop-n.invariant)
 
 pub returns : goal.returns
-returns c = last _ _ _ _ _ _ c.loop-n.invariant _ c.char_in-2.ensures c.loop-n-test.false
+returns c = last _ _ _ _ _ _ c.loop-n.invariant _ c.digit_char-2.ensures c.loop-n-test.false

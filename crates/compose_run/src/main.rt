@@ -4,79 +4,35 @@
 
 ghost use Rattle.std.specs.Prelude.{◌≤◌, length};
 
-use compose::Composed;
-use names::NamePlace;
+use code::{Answer, Code};
+use compose::Map;
+use names::{Joined, Names};
 use std::io;
 
-// A number, and a line's end after the last of a row.
-fn print_cell(rt: &impl Print, x: u32, last: bool) -> io::Result<()> {
-    if x == token::NONE {
-        rt.write_all(b"-")?;
-    } else {
-        rt.print(x)?;
-    }
-    if last {
-        return rt.write_all(b"\n");
-    }
-    rt.write_all(b" ")
-}
-
+// A table's numbers, a token a line; no line ends after the last where it is no whole token.
 fn print_rows(rt: &impl Print, numbers: &[u32]) -> io::Result<()> {
-    let mut i: usize = 0;
-    while i < numbers.len() {
-        print_cell(rt, numbers[i], i % token::WIDTH == token::WIDTH - 1)?;
-        i += 1;
+    for (i, &x) in numbers.iter().enumerate() {
+        if x == token::NONE {
+            rt.write_all(b"-")?;
+        } else {
+            rt.print(x)?;
+        }
+        let ends = i % token::WIDTH == token::WIDTH - 1;
+        rt.write_all(if ends { b"\n" } else { b" " })?;
     }
     Ok(())
 }
 
-fn print_name(rt: &impl Print, id: u32, p: NamePlace, name: &[u8], exists: bool) -> io::Result<()> {
-    rt.print(id)?;
-    if exists {
-        rt.write_all(b" yes ")?;
-    } else {
-        rt.write_all(b" no ")?;
-    }
-    rt.print(p.start)?;
-    rt.write_all(b" ")?;
-    rt.print(p.end)?;
-    if p.outer {
-        rt.write_all(b" outer [")?;
-    } else {
-        rt.write_all(b" inner [")?;
-    }
-    rt.write_all(name)?;
+fn print_name(rt: &impl Print, names: Joined<'_>, id: u32) -> io::Result<()> {
+    let exists = if names.name_exists(id) { "yes" } else { "no" };
+    let (start, end, list) = match names.name_place(id) {
+        Some(p) if p.outer => (p.start, p.end, "outer"),
+        Some(p) => (p.start, p.end, "inner"),
+        None => (0, 0, "inner"),
+    };
+    print!(rt; "{id} {exists} {start} {end} {list} [")?;
+    rt.write_all(names.name_of(id))?;
     rt.write_all(b"]\n")
-}
-
-fn print_names<'a>(
-    rt: &impl Print,
-    inner: &'a [u8],
-    inner_ends: &[usize],
-    outer: &'a [u8],
-    outer_ends: &[usize],
-    added: &[u32],
-    limit: u32,
-) -> io::Result<()> {
-    let mut id: u32 = 0;
-    while id < limit {
-        print_name(
-            rt,
-            id,
-            names::name_place(inner, inner_ends, outer, outer_ends, added, id),
-            names::name_of(inner, inner_ends, outer, outer_ends, added, id),
-            names::name_exists(inner, inner_ends, outer, outer_ends, added, id),
-        )?;
-        id += 1;
-    }
-    Ok(())
-}
-
-fn print_answer(rt: &impl Print, c: Composed) -> io::Result<()> {
-    let code = code::code_of(c.code);
-    let number = code::number_of(c.code);
-    let added = c.added;
-    println!(rt; "code {code} {number} added {added}")
 }
 
 fn print_line(rt: &impl Print, text: &[u8]) -> io::Result<()> {
@@ -84,45 +40,43 @@ fn print_line(rt: &impl Print, text: &[u8]) -> io::Result<()> {
     rt.write_all(b"\n")
 }
 
-// One composition and all of its answer, with the names of the ids below a limit.
-fn run<'a>(
+// A composition's answer, and what the lent lists hold then.
+fn print_composed(
     rt: &impl Print,
-    outer: &[u32],
+    r: Result<usize, Code>,
+    res: &[u32],
+    added: &[u32],
+) -> io::Result<()> {
+    let Answer { code, number } = code::answer_of(r.map(|_| ()));
+    let count = r.unwrap_or(0);
+    println!(rt; "code {code} {number} added {count}")?;
+    print_rows(rt, res)?;
+    print_line(rt, b"")?;
+    print_rows(rt, added)?;
+    print_line(rt, b"")
+}
+
+// One composition and all of its answer, with the names of the ids below a limit.
+fn run(
+    rt: &impl Print,
+    outer: Map<'_>,
     sources: u32,
-    outer_names: &'a [u8],
-    outer_ends: &[usize],
-    inner: &[u32],
-    inner_names: &'a [u8],
-    inner_ends: &[usize],
+    inner: Map<'_>,
     res: &mut [u32],
     added: &mut [u32],
     limit: u32,
 ) -> io::Result<()> {
-    let c = compose::compose(
-        outer,
-        sources,
-        outer_names,
-        outer_ends,
-        inner,
-        inner_names,
-        inner_ends,
-        res,
+    let r = compose::compose(outer, sources, inner, res, added);
+    print_composed(rt, r, res, added)?;
+    let names = Joined {
+        inner: inner.names,
+        outer: outer.names,
         added,
-    );
-    print_answer(rt, c)?;
-    print_rows(rt, res)?;
-    print_line(rt, b"")?;
-    print_rows(rt, added)?;
-    print_line(rt, b"")?;
-    print_names(
-        rt,
-        inner_names,
-        inner_ends,
-        outer_names,
-        outer_ends,
-        added,
-        limit,
-    )
+    };
+    for id in 0..limit {
+        print_name(rt, names, id)?;
+    }
+    Ok(())
 }
 
 // A number below 36 by its digit; none by anything else.
@@ -136,13 +90,8 @@ fn number(digit: u8) -> u32 {
 
 // A table's numbers, a digit each.
 fn fill(digits: &[u8], table: &mut [u32]) {
-    let mut i: usize = 0;
-    while i < table.len() {
-        if digits.len() <= i {
-            return;
-        }
-        table[i] = number(digits[i]);
-        i += 1;
+    for (place, &digit) in table.iter_mut().zip(digits) {
+        *place = number(digit);
     }
 }
 
@@ -163,24 +112,33 @@ fn outer_table() -> [u32; 91] {
     t
 }
 
+const OUTER_NAMES: &[u8] = b"betagammagammaalpha";
+
+const OUTER_ENDS: [usize; 5] = [4, 9, 9, 14, 19];
+
+const INNER_NAMES: &[u8] = b"alphabeta";
+
+const INNER_ENDS: [usize; 2] = [5, 9];
+
+fn map_of<'a>(table: &'a [u32], text: &'a [u8], ends: &'a [usize]) -> Map<'a> {
+    Map {
+        table,
+        names: Names { text, ends },
+    }
+}
+
 // Found and not, the inner token's name and the outer's, equal names once, an empty name, a name id past its list.
 fn maps(rt: &impl Print) -> io::Result<()> {
     let inner = inner_table();
     let outer = outer_table();
-    let outer_ends = [4usize, 9, 9, 14, 19];
-    let inner_ends = [5usize, 9];
     let mut result = [7u32; 100];
     let mut added = [77u32; 6];
     print_line(rt, b"maps")?;
     run(
         rt,
-        &outer,
+        map_of(&outer, OUTER_NAMES, &OUTER_ENDS),
         1,
-        b"betagammagammaalpha",
-        &outer_ends,
-        &inner,
-        b"alphabeta",
-        &inner_ends,
+        map_of(&inner, INNER_NAMES, &INNER_ENDS),
         &mut result,
         &mut added,
         5,
@@ -193,40 +151,28 @@ fn maps_with(rt: &impl Print, label: &[u8], places: usize) -> io::Result<()>
 {
     let inner = inner_table();
     let outer = outer_table();
-    let outer_ends = [4usize, 9, 9, 14, 19];
-    let inner_ends = [5usize, 9];
     let mut result = [7u32; 100];
     let mut added = [77u32; 6];
     let mut work = [1u32; 19];
     print_line(rt, label)?;
-    let c = compose::compose_with(
-        &outer,
+    let r = compose::compose_with(
+        map_of(&outer, OUTER_NAMES, &OUTER_ENDS),
         1,
-        b"betagammagammaalpha",
-        &outer_ends,
-        &inner,
-        b"alphabeta",
-        &inner_ends,
+        map_of(&inner, INNER_NAMES, &INNER_ENDS),
         &mut result,
         &mut added,
         &mut work[..places],
     );
-    print_answer(rt, c)?;
-    print_rows(rt, &result)?;
-    print_line(rt, b"")?;
-    print_rows(rt, &added)?;
-    print_line(rt, b"")
+    print_composed(rt, r, &result, &added)
 }
 
 // One composition over the names of "xy", into so many numbers and so many places.
 fn small(
     rt: &impl Print,
     label: &[u8],
-    outer: &[u32],
+    outer: Map<'_>,
     sources: u32,
-    outer_ends: &[usize],
-    inner: &[u32],
-    inner_ends: &[usize],
+    inner: Map<'_>,
     numbers: usize,
     room: usize,
 ) -> io::Result<()>
@@ -239,15 +185,16 @@ fn small(
         rt,
         outer,
         sources,
-        b"xy",
-        outer_ends,
         inner,
-        b"xy",
-        inner_ends,
         &mut result[..numbers],
         &mut added[..room],
         2,
     )
+}
+
+// A table with the names of "xy".
+fn xy<'a>(table: &'a [u32], ends: &'a [usize]) -> Map<'a> {
+    map_of(table, b"xy", ends)
 }
 
 // A bad table, and every later test failing too.
@@ -259,37 +206,30 @@ fn bad_tables(rt: &impl Print) -> io::Result<()> {
     small(
         rt,
         b"sources",
-        &outer[..6],
+        xy(&outer[..6], &fall),
         2,
-        &fall,
-        &inner[..6],
-        &past,
+        xy(&inner[..6], &past),
         6,
         0,
     )?;
     small(
         rt,
         b"outer table",
-        &outer[..6],
+        xy(&outer[..6], &fall),
         1,
-        &fall,
-        &inner,
-        &past,
+        xy(&inner, &past),
         6,
         0,
     )?;
     small(
         rt,
         b"inner table",
-        &outer,
+        xy(&outer, &fall),
         1,
-        &fall,
-        &inner[..6],
-        &past,
+        xy(&inner[..6], &past),
         6,
         0,
-    )?;
-    Ok(())
+    )
 }
 
 // A bad list, or too little room, and every later test failing too.
@@ -302,28 +242,39 @@ fn bad_names(rt: &impl Print) -> io::Result<()> {
     small(
         rt,
         b"outer names",
-        &outer,
+        xy(&outer, &fall),
         1,
-        &fall,
-        &inner[..0],
-        &past,
+        xy(&inner[..0], &past),
         6,
         0,
     )?;
     small(
         rt,
         b"inner names",
-        &outer,
+        xy(&outer, &ends),
         1,
-        &ends,
-        &inner[..0],
-        &past,
+        xy(&inner[..0], &past),
         6,
         0,
     )?;
-    small(rt, b"full", &outer, 1, &ends, &inner[..0], &past[..0], 6, 0)?;
-    small(rt, b"room", &outer, 1, &ends, &inner[..0], &past[..0], 7, 0)?;
-    Ok(())
+    small(
+        rt,
+        b"full",
+        xy(&outer, &ends),
+        1,
+        xy(&inner[..0], &past[..0]),
+        6,
+        0,
+    )?;
+    small(
+        rt,
+        b"room",
+        xy(&outer, &ends),
+        1,
+        xy(&inner[..0], &past[..0]),
+        7,
+        0,
+    )
 }
 
 // Equal names, and empty tables, lists and names.
@@ -333,23 +284,44 @@ fn empties(rt: &impl Print) -> io::Result<()> {
     let all = [2usize];
     let none = [0usize];
     let both = [0usize, 2];
-    small(rt, b"equal", &outer, 1, &all, &inner, &both, 7, 1)?;
-    small(rt, b"empty", &outer, 1, &none, &inner, &both, 7, 1)?;
-    small(rt, b"no names", &outer, 1, &all, &inner, &both[..0], 7, 2)?;
-    small(rt, b"no inner", &outer, 1, &all, &inner[..0], &both, 7, 2)?;
-    small(rt, b"no outer", &outer[..0], 0, &all, &inner, &both, 7, 2)?;
+    small(rt, b"equal", xy(&outer, &all), 1, xy(&inner, &both), 7, 1)?;
+    small(rt, b"empty", xy(&outer, &none), 1, xy(&inner, &both), 7, 1)?;
+    small(
+        rt,
+        b"no names",
+        xy(&outer, &all),
+        1,
+        xy(&inner, &both[..0]),
+        7,
+        2,
+    )?;
+    small(
+        rt,
+        b"no inner",
+        xy(&outer, &all),
+        1,
+        xy(&inner[..0], &both),
+        7,
+        2,
+    )?;
+    small(
+        rt,
+        b"no outer",
+        xy(&outer[..0], &all),
+        0,
+        xy(&inner, &both),
+        7,
+        2,
+    )?;
     small(
         rt,
         b"nothing",
-        &outer[..0],
+        xy(&outer[..0], &all[..0]),
         0,
-        &all[..0],
-        &inner[..0],
-        &both[..0],
+        xy(&inner[..0], &both[..0]),
         0,
         0,
-    )?;
-    Ok(())
+    )
 }
 
 fn main(rt: HostRuntime) -> io::Result<()> {

@@ -5,274 +5,110 @@
 // names and then the inner names.
 #![tactic(auto)]
 
-ghost use Rattle.std.specs.Prelude.{◌<◌, ◌≤◌, ◌≡◌, length};
 ghost use Rattle.replay.specs.Counts.{IsPrefixLen};
 
-use compose::Composed;
-
-fn size(n: u32) -> usize
-    ensures { result < 4294967296 }
-{
-    n as usize
-}
-
-// 32 places for name ends. The `ensures` gives only the length.
-fn no_ends() -> [usize; 32]
-    ensures { 32 ≡ length result }
-{
-    [0; 32]
-}
+use compose::Map;
+use names::Names;
 
 // The numbers of a list as name ends, as far as there is room for them; how many.
 fn ends_in(numbers: &[u32], out: &mut [usize]) -> usize
     ensures { IsPrefixLen result out.new }
 {
-    let mut i: usize = 0;
-    while i < out.len() {
-        if numbers.len() <= i {
-            return i;
-        }
-        out[i] = size(numbers[i]);
-        i += 1;
+    for (end, &n) in out.iter_mut().zip(numbers) {
+        *end = n as usize;
     }
-    i
+    numbers.len().min(out.len())
 }
 
-// By the plain call, or by the one with working memory.
-fn composed(
+// What a record asks for, and what it wants.
+#[derive(Clone, Copy)]
+struct Record<'a> {
+    outer: Map<'a>,
     sources: u32,
-    outer: &[u32],
-    outer_names: &[u8],
-    outer_ends: &[usize],
-    inner: &[u32],
-    inner_names: &[u8],
-    inner_ends: &[usize],
-    res: &mut [u32],
-    added: &mut [u32],
-    work: &mut [u32],
-    with: bool,
-) -> Composed {
-    if with {
-        return compose::compose_with(
-            outer,
-            sources,
-            outer_names,
-            outer_ends,
-            inner,
-            inner_names,
-            inner_ends,
-            res,
-            added,
-            work,
-        );
-    }
-    compose::compose(
-        outer,
-        sources,
-        outer_names,
-        outer_ends,
-        inner,
-        inner_names,
-        inner_ends,
-        res,
-        added,
-    )
+    inner: Map<'a>,
+    want: &'a [u32],
+    want_added: &'a [u32],
 }
 
-// Into lists that hold sevens.
-fn composes(
-    sources: u32,
-    outer: &[u32],
-    outer_names: &[u8],
-    outer_ends: &[usize],
-    inner: &[u32],
-    inner_names: &[u8],
-    inner_ends: &[usize],
-    want: &[u32],
-    want_added: &[u32],
-    res: &mut [u32],
-    added: &mut [u32],
-    work: &mut [u32],
-    with: bool,
-) -> bool {
-    let r = composed(
-        sources,
-        outer,
-        outer_names,
-        outer_ends,
-        inner,
-        inner_names,
-        inner_ends,
-        res,
-        added,
-        work,
-        with,
-    );
-    let c = r.code;
-    if !replay::answers(c, 0, 0) {
+// By the plain call, or by the one with working memory where it is lent; into lists that hold sevens.
+fn composes(r: Record<'_>, res: &mut [u32], added: &mut [u32], work: Option<&mut [u32]>) -> bool {
+    let answer = match work {
+        Some(work) => compose::compose_with(r.outer, r.sources, r.inner, res, added, work),
+        None => compose::compose(r.outer, r.sources, r.inner, res, added),
+    };
+    let Ok(count) = answer else {
         return false;
-    }
-    if r.added != want_added.len() {
-        return false;
-    }
-    if !replay::holds(res, want, 7) {
-        return false;
-    }
-    replay::holds(added, want_added, 7)
+    };
+    count == r.want_added.len()
+        && replay::holds(res, r.want, 7)
+        && replay::holds(added, r.want_added, 7)
 }
 
-// With more room than it takes, and with just enough: the working memory then holds what the first call left.
-fn composes_twice(
-    sources: u32,
-    outer: &[u32],
-    outer_names: &[u8],
-    outer_ends: &[usize],
-    inner: &[u32],
-    inner_names: &[u8],
-    inner_ends: &[usize],
-    want: &[u32],
-    want_added: &[u32],
-    with: bool,
-) -> bool {
-    let mut result = replay::sevens();
-    let mut added = replay::sevens();
+// By either call, with more room than it takes, and with just enough: the working memory then holds what the call before left.
+fn both_compose(r: Record<'_>) -> bool {
+    let places = r.want.len();
+    let outer_count = r.outer.names.ends.len();
+    let inner_count = r.inner.names.ends.len();
+    if 480 < places || 32 < outer_count || 32 < inner_count {
+        return false;
+    }
+    let needed = 2 * inner_count + 3 * outer_count;
     let mut work = replay::sevens();
-    if !composes(
-        sources,
-        outer,
-        outer_names,
-        outer_ends,
-        inner,
-        inner_names,
-        inner_ends,
-        want,
-        want_added,
-        &mut result,
-        &mut added,
-        &mut work,
-        with,
-    ) {
-        return false;
-    }
-    let mut just = replay::sevens();
-    let mut just_added = replay::sevens();
-    let places = want.len();
-    let names = outer_ends.len();
-    let inner_count = inner_ends.len();
-    if 480 < places {
-        return false;
-    }
-    if 32 < names {
-        return false;
-    }
-    if 32 < inner_count {
-        return false;
-    }
-    composes(
-        sources,
-        outer,
-        outer_names,
-        outer_ends,
-        inner,
-        inner_names,
-        inner_ends,
-        want,
-        want_added,
-        &mut just[..places],
-        &mut just_added[..names],
-        &mut work[..2 * inner_count + 3 * names],
-        with,
-    )
+    composes(r, &mut replay::sevens(), &mut replay::sevens(), None)
+        && composes(
+            r,
+            &mut replay::sevens()[..places],
+            &mut replay::sevens()[..outer_count],
+            None,
+        )
+        && composes(
+            r,
+            &mut replay::sevens(),
+            &mut replay::sevens(),
+            Some(&mut work),
+        )
+        && composes(
+            r,
+            &mut replay::sevens()[..places],
+            &mut replay::sevens()[..outer_count],
+            Some(&mut work[..needed]),
+        )
 }
 
-// By the plain call, and by the one with working memory.
-fn both_compose(
-    sources: u32,
-    outer: &[u32],
-    outer_names: &[u8],
-    outer_ends: &[usize],
-    inner: &[u32],
-    inner_names: &[u8],
-    inner_ends: &[usize],
-    want: &[u32],
-    want_added: &[u32],
-) -> bool {
-    if !composes_twice(
-        sources,
-        outer,
-        outer_names,
-        outer_ends,
-        inner,
-        inner_names,
-        inner_ends,
-        want,
-        want_added,
-        false,
-    ) {
-        return false;
-    }
-    composes_twice(
-        sources,
-        outer,
-        outer_names,
-        outer_ends,
-        inner,
-        inner_names,
-        inner_ends,
-        want,
-        want_added,
-        true,
-    )
-}
-
-// With the places where the parts of the numbers begin, and the outer names' bytes.
-fn parts_agree(
-    numbers: &[u32],
-    text: &[u8],
-    inner: usize,
-    res: usize,
-    outer_ends: usize,
-    inner_ends: usize,
-    added: usize,
-    names: usize,
-) -> bool
-    requires le_inner { (6 ≤ inner) × (inner ≤ res) × (res ≤ outer_ends) × (outer_ends ≤ inner_ends) × (inner_ends ≤ added) × (added ≤ length numbers.now) }
-    requires names_in_bounds { names ≤ length text.now }
-{
-    let mut outer_list = no_ends();
-    let n = ends_in(&numbers[outer_ends..inner_ends], &mut outer_list);
-    let mut inner_list = no_ends();
-    let m = ends_in(&numbers[inner_ends..added], &mut inner_list);
-    both_compose(
-        numbers[0],
-        &numbers[6..inner],
-        &text[..names],
-        &outer_list[..n],
-        &numbers[inner..res],
-        &text[names..],
-        &inner_list[..m],
-        &numbers[res..outer_ends],
-        &numbers[added..],
-    )
-}
-
-pub fn compose_agrees(numbers: &[u32], text: &[u8]) -> bool {
+pub fn compose_agrees<'a>(numbers: &'a [u32], text: &'a [u8]) -> bool {
     if numbers.len() < 6 {
         return false;
     }
-    let inner = 6 + size(numbers[1]);
-    let result = inner + size(numbers[2]);
-    let outer_ends = result + size(numbers[1]);
-    let inner_ends = outer_ends + size(numbers[3]);
-    let added = inner_ends + size(numbers[4]);
-    let names = size(numbers[5]);
-    if numbers.len() < added {
+    let inner = 6 + numbers[1] as usize;
+    let result = inner + numbers[2] as usize;
+    let outer_ends = result + numbers[1] as usize;
+    let inner_ends = outer_ends + numbers[3] as usize;
+    let added = inner_ends + numbers[4] as usize;
+    let names = numbers[5] as usize;
+    if numbers.len() < added || text.len() < names {
         return false;
     }
-    if text.len() < names {
-        return false;
-    }
-    parts_agree(
-        numbers, text, inner, result, outer_ends, inner_ends, added, names,
-    )
+    let mut outer_list = [0; 32];
+    let n = ends_in(&numbers[outer_ends..inner_ends], &mut outer_list);
+    let mut inner_list = [0; 32];
+    let m = ends_in(&numbers[inner_ends..added], &mut inner_list);
+    both_compose(Record {
+        outer: Map {
+            table: &numbers[6..inner],
+            names: Names {
+                text: &text[..names],
+                ends: &outer_list[..n],
+            },
+        },
+        sources: numbers[0],
+        inner: Map {
+            table: &numbers[inner..result],
+            names: Names {
+                text: &text[names..],
+                ends: &inner_list[..m],
+            },
+        },
+        want: &numbers[result..outer_ends],
+        want_added: &numbers[added..],
+    })
 }

@@ -35,7 +35,7 @@ fn part_from(table: &[u32], from: usize, asked: u64) -> Part
     let low = order::key_at(table, from);
     if NEAR < left {
         let high = order::key_at(table, from + NEAR);
-        if std::num::wrapping_sub_u64(asked, low) < high - low {
+        if asked.wrapping_sub(low) < high - low {
             return Part {
                 base: from,
                 size: NEAR,

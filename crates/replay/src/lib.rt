@@ -1,7 +1,7 @@
 // Recorded answers as text: lines of numbers and lines of bytes, in a block of bytes.
 #![tactic(auto)]
 
-ghost use Rattle.std.specs.Prelude.{◌≡◌, ◌≤◌, length};
+ghost use Rattle.std.specs.Prelude.{◌≡◌, ◌<◌, ◌≤◌, length};
 ghost use Rattle.replay.specs.Counts.{IsPrefixLen};
 
 use code::Code;
@@ -35,7 +35,8 @@ pub fn line_end(s: &[u8], from: usize) -> usize
 // The place after a line's end.
 pub fn after(s: &[u8], end: usize) -> usize
     requires { end ≤ length s.now }
-    ensures { (end ≤ result) × (result ≤ length s.now) }
+    ensures within { (end ≤ result) × (result ≤ length s.now) }
+    ensures past { end < length s.now → end < result }
 {
     if end < s.len() {
         return end + 1;

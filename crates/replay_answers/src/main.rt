@@ -4,17 +4,16 @@
 // then a text or more numbers. Other lines are empty. The input is read in blocks of 4,096 bytes, and no record lies across two.
 #![tactic(auto)]
 
-ghost use Rattle.std.specs.Prelude.{◌≤◌, length, IfOk};
+ghost use Rattle.std.specs.Prelude.{◌<◌, ◌≤◌, length, IfOk};
 
 use replay::Tally;
 use std::io;
-use std::io::Read;
 
 // The place after a record, and the counts with it.
 #[derive(Clone, Copy)]
 struct Passed {
     next: usize,
-    tally: Tally,
+    tally: Option<Tally>,
 }
 
 fn agrees(kind: u8, numbers: &mut [u32], text: &[u8]) -> bool {
@@ -31,18 +30,18 @@ fn agrees(kind: u8, numbers: &mut [u32], text: &[u8]) -> bool {
 }
 
 fn record_agrees(head: &[u8], text: &[u8]) -> bool {
-    if head.len() < 2 {
+    let [kind, _, line @ ..] = head else {
         return false;
-    }
+    };
     let mut numbers = replay::sevens();
-    let n = replay::numbers(&head[2..], &mut numbers);
-    agrees(head[0], &mut numbers[..n], text)
+    let n = replay::numbers(line, &mut numbers);
+    agrees(*kind, &mut numbers[..n], text)
 }
 
 // What begins at a place of a block: a group's name, a record, or an empty line.
-fn turn(rt: &impl Print, block: &[u8], at: usize, t: Tally) -> io::Result<Passed>
+fn turn(rt: &impl Print, block: &[u8], at: usize, t: Option<Tally>) -> io::Result<Passed>
     requires { at ≤ length block.now }
-    ensures { IfOk result (λ p. p.next ≤ length block.now) }
+    ensures { IfOk result (λ p. (p.next ≤ length block.now) × (at < length block.now → at < p.next)) }
 {
     let end = replay::line_end(block, at);
     let from = replay::after(block, end);
@@ -66,53 +65,28 @@ fn turn(rt: &impl Print, block: &[u8], at: usize, t: Tally) -> io::Result<Passed
     })
 }
 
-fn in_block(rt: &impl Print, block: &[u8], tally: Tally) -> io::Result<Tally> {
+fn in_block(rt: &impl Print, block: &[u8], tally: Option<Tally>) -> io::Result<Option<Tally>> {
     let mut t = tally;
     let mut at: usize = 0;
-    let mut left = block.len();
-    while left > 0 {
-        let r = turn(rt, block, at, t)?;
-        at = r.next;
-        t = r.tally;
-        left -= 1;
+    while at < block.len() {
+        let passed = turn(rt, block, at, t)?;
+        at = passed.next;
+        t = passed.tally;
     }
     Ok(t)
 }
 
-// A block's counts, and whether there was one.
-#[derive(Clone, Copy)]
-struct Block {
-    tally: Tally,
-    more: bool,
-}
-
-fn next_block<R: Read>(rt: &impl Print, reader: &mut R, t: Tally) -> io::Result<Block> {
-    let mut block = [0u8; 4096];
-    let n = input::read_full(reader, &mut block)?;
-    if n == 0 {
-        return Ok(Block {
-            tally: t,
-            more: false,
-        });
-    }
-    Ok(Block {
-        tally: in_block(rt, &block[..n], t)?,
-        more: true,
-    })
-}
-
-// Everything that standard input has, block by block. Nothing says that an input ends, so the blocks are counted down.
+// Everything that standard input has, block by block. Nothing says that an input ends, so the blocks are counted.
 fn main(rt: HostRuntime) -> io::Result<()> {
     let mut reader = rt.reader();
-    let mut t = replay::nothing();
-    let mut left: u64 = 1000000;
-    while left > 0 {
-        let b = next_block(&rt, &mut reader, t)?;
-        if !b.more {
+    let mut t = None;
+    for _ in 0..1000000 {
+        let mut block = [0u8; 4096];
+        let n = input::read_full(&mut reader, &mut block)?;
+        if n == 0 {
             return replay::ended(&rt, t);
         }
-        t = b.tally;
-        left -= 1;
+        t = in_block(&rt, &block[..n], t)?;
     }
     Ok(())
 }

@@ -94,15 +94,6 @@ module _ (left right : List ℕ) (room entries : ℕ) where
   unfolding compared
   ready e = tables (bad_table (length left)) refl (bad_table (length right)) refl e
 
--- ---- a whole call
-module _ (left right out : List ℕ) where
-  pub nothing_written : (c : Code) → Err c ≡ compared left right (length out) → Compares left right out (Err c) out
-  nothing_written c e = record { says = e; wrote = rw (← e) }
-
-  pub all_written : (entries : ℕ) → Ok entries ≡ compared left right (length out) → (out' : List ℕ) → out' ≡ onto (listed (changes left right)) out
-      → Compares left right out (Ok entries) out'
-  all_written entries e out' w = record { says = e; wrote = rw (← e) w }
-
 -- there is one answer
 pub one_answer : (left right out : List ℕ) (r s : Result ℕ Code) (x y : List ℕ) → Compares left right out r x → Compares left right out s y → (r ≡ s) × (x ≡ y)
 one_answer left right out r s x y a b = (a.says ∙ sym b.says, a.wrote ∙ sym b.wrote)

@@ -71,16 +71,6 @@ module _ (left right : List ℕ) where
   pub few_tokens : Walks left right → places (length left) + places (length right) ≤ 8589934588
   few_tokens w = omega (arith, few (length left) w.left_table, few (length right) w.right_table)
 
-  pub few_walked : (i j : ℕ) → Walks left right → Inside i j → i + j ≤ 8589934588
-  few_walked i j w s = omega (arith, few_tokens w, s.in_left, s.in_right)
-
-  -- an index has 32 bits
-  pub narrow_left : (i j : ℕ) → Walks left right → Inside i j → i < 4294967296
-  narrow_left i j w s = omega (arith, few (length left) w.left_table, s.in_left)
-
-  pub narrow_right : (i j : ℕ) → Walks left right → Inside i j → j < 4294967296
-  narrow_right i j w s = omega (arith, few (length right) w.right_table, s.in_right)
-
   -- what is left at the end
   none_left : (i j all : ℕ) → Inside i j → all ≡ places (length left) + places (length right) → all ≤ i + j → changes_on left right i j ≡ []
   none_left i j all s e h = all_done left right i j s.in_left s.in_right (omega (arith, e))
@@ -90,16 +80,6 @@ module _ (left right : List ℕ) where
     pub within : Inside i j
     pub small : entries ≤ i + j
     pub sum : length (changes left right) ≡ entries + length (changes_on left right i j)
-
-  pub count_start : Counted 0 0 0
-  count_start = record { within = at_start; small = omega arith; sum = sym (ap length (from_start left right)) ∙ sym (zero-add (length (changes_on left right 0 0))) }
-
-  pub count_turn : (i j entries n : ℕ) (t : Turn) → Counted i j entries → Turns left right i j t → n ≡ from_bool (is_some t.kind) → Counted t.i t.j (entries + n)
-  count_turn i j entries n t c u e =
-      let o = one_at_most t.kind i j n e in
-      let l : length (changes_on left right i j) ≡ length (given t.kind i j) + length (changes_on left right t.i t.j)
-      = ap length u.gives ∙ length-append (given t.kind i j) (changes_on left right t.i t.j) in
-      record { within = inside i j t u; small = omega (arith, o.1, c.small, u.on); sum = omega (arith, c.sum, l, o.0) }
 
   pub count_end : (i j all entries : ℕ) → Counted i j entries → all ≡ places (length left) + places (length right) → all ≤ i + j → Counts left right entries
   count_end i j all entries c e h =
@@ -121,9 +101,6 @@ module _ (left right : List ℕ) where
       }
 
   module _ (out₀ : List ℕ) (i j at : ℕ) (out : List ℕ) (w : Written out₀ i j at out) where
-    pub write_long : length out ≡ length out₀
-    write_long = due_same _ _ _ _ _ _ w.due
-
     module _ (t : Turn) (u : Turns left right i j t) where
       split : Due out₀ 0 (listed (changes left right)) (listed (given t.kind i j) ++ listed (changes_on left right t.i t.j)) at out
       split = due_is _ _ _ _ _ _ _ (ap listed u.gives ∙ listed_append (given t.kind i j) (changes_on left right t.i t.j)) w.due

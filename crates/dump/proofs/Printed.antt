@@ -3,6 +3,7 @@ use mathlib.Core.Path.{◌≡◌, refl, ap, sym, ◌∙◌}
 use mathlib.Core.List.{List}
 use Prim.Native.Nat.{ℕ, ◌-◌, ◌≤◌, ◌<◌}
 use native.Mathlib.Omega.{arith}
+use Rattle.std.proofs.Common.{Option, Some, None}
 use lib.ListN.{length, take, drop, length-drop}
 use lib.Seq.{length-take-le, take_all, take_at}
 use borrow.Author.Tests.{lt-ltb, le-ltb}
@@ -29,7 +30,7 @@ module _ (input : List ℕ) where
   unfolding rendered
   too_long h = rw (lt-ltb 16384 (length input) h)
 
-  by_line : length input ≤ 16384 → (l : FirstLine) → Reads input l → rendered input ≡ rendered_by input l
+  by_line : length input ≤ 16384 → (l : Option FirstLine) → Reads input l → rendered input ≡ rendered_by input l
   unfolding rendered
   by_line h l e = rw (le-ltb 16384 (length input) h) (ap (rendered_by input) (sym (reads_computed input l e)))
 
@@ -40,17 +41,17 @@ module _ (input : List ℕ) where
     pub put_too_long : 16384 < length input → Put out 0 input_line r out' → PutMost 67682 out 0 (rendered input) r out'
     put_too_long h = refused (too_long h)
 
-    module _ (h : length input ≤ 16384) (l : FirstLine) (f : Reads input l) where
-      pub put_bad : l ≡ FirstLine.Bad → Put out 0 input_line r out' → PutMost 67682 out 0 (rendered input) r out'
-      put_bad e = refused (by_line h l f ∙ ap (rendered_by input) e)
+    module _ (h : length input ≤ 16384) where
+      pub put_bad : Reads input None → Put out 0 input_line r out' → PutMost 67682 out 0 (rendered input) r out'
+      put_bad f = refused (by_line h None f)
 
       -- the text is the rest, as the code takes it
-      pub put_text : (sources names at : ℕ) → l ≡ FirstLine.Counts sources names at
-          → PutMost 67682 out 0 (report (decoded Mode.Lenient sources names (take (length input - at) (drop at input)) 1024)) r out'
+      pub put_text : (l : FirstLine) → Reads input (Some l)
+          → PutMost 67682 out 0 (report (decoded Mode.Lenient l.sources l.names (take (length input - l.text) (drop l.text input)) 1024)) r out'
           → PutMost 67682 out 0 (rendered input) r out'
-      put_text sources names at e p =
-          let t : take (length input - at) (drop at input) ≡ drop at input = take_all (length input - at) (drop at input) (omega (arith, length-drop at input)) in
-          let q : rendered input ≡ report (decoded Mode.Lenient sources names (take (length input - at) (drop at input)) 1024) = by_line h l f ∙ ap (rendered_by input) e ∙ rw t in
+      put_text l f p =
+          let t : take (length input - l.text) (drop l.text input) ≡ drop l.text input = take_all (length input - l.text) (drop l.text input) (omega (arith, length-drop l.text input)) in
+          let q : rendered input ≡ report (decoded Mode.Lenient l.sources l.names (take (length input - l.text) (drop l.text input)) 1024) = by_line h (Some l) f ∙ rw t in
           rw q p
 
     pub renders : 67682 ≤ length out → PutMost 67682 out 0 (rendered input) r out' → Renders input out r out'

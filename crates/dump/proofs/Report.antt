@@ -38,12 +38,12 @@ module _ (o : Out) (out : List ℕ) (i : ℕ) (out₁ : List ℕ) (p : PutMost 2
     end_room : j + 70 ≤ length out₂
     end_room = omega (arith, long₁, long₂, p.put.past, p.few, q.put.past, q.few)
 
-    report_put : (r : ℕ) (out' : List ℕ) → PutMost 70 out₂ j (end_line o.code o.offset) r out' → PutMost 67682 out 0 (report o) r out'
+    report_put : (r : ℕ) (out' : List ℕ) → PutMost 70 out₂ j (end_line o.end o.offset) r out' → PutMost 67682 out 0 (report o) r out'
     unfolding report
     report_put r out' e =
         let a : List ℕ = count_line (length o.tokens) in
         let b : List ℕ = token_lines o.tokens in
-        let c : List ℕ = end_line o.code o.offset in
+        let c : List ℕ = end_line o.end o.offset in
         let l : length (b ++ c) ≡ length b + length c = length-append b c in
         record {
           put =
@@ -87,5 +87,5 @@ module _ (sources names : ℕ) (text table : List ℕ) (wide : places (length ta
       pub end_fits : j + 70 ≤ length out₂
       end_fits = end_room o out i out₁ p' few room j out₂ q'
 
-      pub reported : (r : ℕ) (out' : List ℕ) → PutMost 70 out₂ j (end_line d.code d.offset) r out' → PutMost 67682 out 0 (report o) r out'
+      pub reported : (r : ℕ) (out' : List ℕ) → PutMost 70 out₂ j (end_line d.end d.offset) r out' → PutMost 67682 out 0 (report o) r out'
       reported r out' f = report_put o out i out₁ p' few room j out₂ q' r out' (rw is at f)

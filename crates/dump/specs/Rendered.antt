@@ -1,5 +1,5 @@
 -- docs/RULES.md, dumpmap: what is printed for an input. Assumes nothing.
-use Rattle.std.specs.Prelude.{◌≡◌, List, ◌++◌, ℕ, ◌≤◌, ltb, length, drop}
+use Rattle.std.specs.Prelude.{◌≡◌, List, ◌++◌, ℕ, ◌≤◌, ltb, length, drop, Option, Some, None}
 use Rattle.list.specs.Memory.{onto}
 use Rattle.list.specs.Pick.{pick}
 use Rattle.value.specs.declared.Mode.{Mode}
@@ -10,12 +10,12 @@ use Rattle.lines.specs.Lines.{token_lines, count_line, end_line, input_line}
 
 -- how many tokens, one line a token, and how it ended
 unfoldable pub report : Out → List ℕ
-report o = count_line (length o.tokens) ++ (token_lines o.tokens ++ end_line o.code o.offset)
+report o = count_line (length o.tokens) ++ (token_lines o.tokens ++ end_line o.end o.offset)
 
 -- the rest after the first line is the text; room for 1,024 tokens, lenient; a bad first line prints `input`
-abbrev pub rendered_by : List ℕ → FirstLine → List ℕ
-rendered_by input (FirstLine.Counts sources names at) = report (decoded Mode.Lenient sources names (drop at input) 1024)
-rendered_by input FirstLine.Bad = input_line
+abbrev pub rendered_by : List ℕ → Option FirstLine → List ℕ
+rendered_by input (Some line) = report (decoded Mode.Lenient line.sources line.names (drop line.text input) 1024)
+rendered_by input None = input_line
 
 -- at most 16,384 bytes: a longer input prints `input`
 unfoldable pub rendered : List ℕ → List ℕ

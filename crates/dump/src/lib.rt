@@ -9,7 +9,6 @@ ghost use Rattle.decode.specs.Mapping.{decoded};
 ghost use Rattle.lines.specs.Parts.{PutMost};
 ghost use Rattle.dump.specs.Rendered.{report, rendered, Renders};
 
-use first_line::FirstLine;
 use std::io;
 use std::io::Read;
 
@@ -31,8 +30,7 @@ fn render_text(text: &[u8], sources: u32, names: u32, out: &mut [u8]) -> usize
     let d = decode::decode_lenient(text, sources, names, &mut table);
     let after_count = lines::put_count(out, 0, d.tokens);
     let after_tokens = lines::put_tokens(&table, d.tokens, out, after_count);
-    let code = d.code;
-    lines::put_end(out, after_tokens, code, d.offset)
+    lines::put_end(out, after_tokens, d.end, d.offset)
 }
 
 // By the first line.
@@ -43,10 +41,9 @@ fn render_in(input: &[u8], out: &mut [u8]) -> usize
     if MOST < input.len() {
         return lines::put_input(out, 0);
     }
-    let line = first_line::first_line(input);
-    match line {
-        FirstLine::Counts(sources, names, at) => render_text(&input[at..], sources, names, out),
-        FirstLine::Bad => lines::put_input(out, 0),
+    match first_line::first_line(input) {
+        Some(line) => render_text(&input[line.text..], line.sources, line.names, out),
+        None => lines::put_input(out, 0),
     }
 }
 

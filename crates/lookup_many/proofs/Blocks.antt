@@ -46,9 +46,6 @@ module _ (table : List ℕ) (from to : ℕ) where
     pub inside : i < to → Between table from to → i < places (length table)
     inside h b = omega (arith, b.within)
 
-    pub last_small : Between table from to → last < 4294967295
-    last_small b = omega (arith, s.ends, s.within, b.within, few (length table) b.good)
-
     -- at the end
     pub spanned : to ≤ i → Spans table from to (record { least = least; most = most; last = last })
     spanned h =

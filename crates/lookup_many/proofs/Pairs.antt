@@ -88,10 +88,6 @@ module _ (P Q : ℕ → ℕ → Type 0) (count : ℕ) (a b c : List ℕ) where
 pub again : (P : ℕ → ℕ → Type 0) (count : ℕ) (a b : List ℕ) → Filled P count a b → Filled P count b b
 again P count a b x = record { each = x.each; kept = refl; sized = refl }
 
--- at the last token
-pub finish : (table positions : List ℕ) (count i n : ℕ) (a b : List ℕ) → Filled (Finds table positions i) count a b → i ≡ n → Filled (Finds table positions n) count a b
-finish table positions count i n a b x e = subst (λ (m : ℕ). Filled (Finds table positions m) count a b) e x
-
 -- one block of a table of n tokens
 pub block : (table : List ℕ) (i to n : ℕ) → bad_table (length table) ≡ false → n ≡ places (length table) → (i < to) × (to ≤ n) → Between table i to × (i < to)
 block table i to n good en h = (record { good = good; rises = omega (arith, h.0); within = omega (arith, h.1, en) }, h.0)

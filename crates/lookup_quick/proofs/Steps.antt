@@ -12,7 +12,3 @@ use Rattle.lookup_quick.specs.Each.{Leads}
 -- before anything is known, a position may lead to any token
 pub at_first : (table : List ℕ) (asked : ℕ) → 0 < places (length table) → Within table asked 0 (places (length table))
 at_first table asked h = record { some = h; ends = omega arith; from = λ l. absurd (omega arith); to = λ l. absurd (omega arith) }
-
--- so many tokens by another name
-pub so_many : (table positions : List ℕ) (count m n : ℕ) (a b : List ℕ) → Filled (Leads table positions m) count a b → m ≡ n → Filled (Leads table positions n) count a b
-so_many table positions count m n a b x e = subst (λ (k : ℕ). Filled (Leads table positions k) count a b) e x

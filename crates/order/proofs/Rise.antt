@@ -48,12 +48,6 @@ module _ (table : List ℕ) where
     pub fell : p < k → (low to : ℕ) → low ≤ at → at < to → Rise table low to → ⊥
     fell h low to l g r = let z : key_at table at ≤ key_at table at' = rw e (r at l g) in omega (arith, ep, u.is)
 
-    -- it is the first that falls
-    pub falls_here : p < k → (to : ℕ) → from ≤ at → at < to → FirstBehind table from to at'
-    falls_here h to l g =
-        let q : at' - 1 ≡ at = omega (arith, e) in
-        record { behind = omega (arith, e); ends = omega (arith, e); rise = rw q u.rise; falls = rw q (omega (arith, ep, u.is)) }
-
   -- where one falls they do not rise
   falls_so : (from to k : ℕ) → FirstBehind table from to k → (low : ℕ) → low ≤ from → Rise table low to → ⊥
   falls_so from to k f low l r =

@@ -31,9 +31,6 @@ module _ {A : Type 0} (f : A → A) (ys : List A) where
   front : (i : ℕ) → i ≤ length ys → length (map f (take i ys)) ≡ i
   front i h = length-map (take i ys) f ∙ length-take-le i ys h
 
-  pub mapped_length : (i : ℕ) → i ≤ length ys → length (mapped_to i) ≡ length ys
-  mapped_length i h = omega (arith, length-append (map f (take i ys)) (drop i ys), length-drop i ys, front i h)
-
   pub mapped_here : (i : ℕ) (d : A) → i < length ys → get_or (mapped_to i) i d ≡ get_or ys i d
   mapped_here i d h = rw (drop-cons ys i d h) (get_or_at (map f (take i ys)) (get_or ys i d) (drop (suc i) ys) d i (front i (omega arith)))
 

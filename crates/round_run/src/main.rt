@@ -2,42 +2,35 @@
 // It does so with two tables: the first has a step to a source column that is too wide for checked mode, the second has none.
 #![tactic(auto)]
 
+ghost use Rattle.std.specs.Prelude.{◌≤◌};
+
 use std::io;
 use token::{Token, TokenChunk};
 
-// The source column of token k.
-fn col_of(wide: bool, k: u32) -> u32 {
-    let from = k % 32 - k % 32 % 3;
-    if wide {
-        4294967295 - from
-    } else {
-        2147483647 - from
-    }
-}
-
-// The i-th token of a list that meets the premises: every third has no source and repeats the source position.
-fn token_of(wide: bool, i: u32) -> Token {
+// The i-th token of a list that meets the premises: every third has no source and repeats the source position. No source column is
+// larger than `most`.
+fn token_of(most: u32, i: u32) -> Token
+    requires { 32 ≤ most }
+{
     let k = i % 32;
     let from = k - k % 3;
-    if k % 3 == 2 {
-        return Token {
-            dst_line: k / 4,
-            dst_col: k % 4 * 1000,
-            src_line: (from + 1) * 70000,
-            src_col: col_of(wide, k),
-            source_id: token::NONE,
-            name_id: token::NONE,
-            segment: token::NONE,
-        };
-    }
-    Token {
+    let bare = Token {
         dst_line: k / 4,
         dst_col: k % 4 * 1000,
         src_line: (from + 1) * 70000,
-        src_col: col_of(wide, k),
+        src_col: most - from,
+        source_id: token::NONE,
+        name_id: token::NONE,
+        segment: token::NONE,
+    };
+    if k % 3 == 2 {
+        return bare;
+    }
+    Token {
         source_id: k % 5,
         name_id: name_of(k),
         segment: k,
+        ..bare
     }
 }
 
@@ -48,108 +41,55 @@ fn name_of(k: u32) -> u32 {
     k % 100 * 40 % 1000
 }
 
-fn zeros() -> TokenChunk {
-    TokenChunk {
-        start: 0,
-        end: 0,
-        prev_dst_line: 0,
-        prev_dst_col: 0,
-        prev_src_line: 0,
-        prev_src_col: 0,
-        prev_name_id: 0,
-        prev_source_id: 0,
+// The table of 24 tokens.
+fn table_of(most: u32) -> [u32; 168]
+    requires { 32 ≤ most }
+{
+    let mut table = [0u32; 168];
+    for i in 0..24u32 {
+        token::put_token(&mut table, i as usize, token_of(most, i));
     }
-}
-
-fn fill(wide: bool, table: &mut [u32; 168]) {
-    let mut i: usize = 0;
-    while i < 24 {
-        token::put_token(table, i, token_of(wide, i as u32));
-        i += 1;
-    }
-}
-
-// The smaller of the next end and the last.
-fn next_end(end: u32, size: u32) -> u32 {
-    if end < 24 {
-        if size < 24 - end {
-            return end + size;
-        }
-    }
-    24
-}
-
-// Writes one chunk after what stands in `out` already; where that ends then.
-fn write_chunk(table: &[u32], chunk: TokenChunk, out: &mut [u8], at: usize) -> encode::Encoded {
-    if out.len() < at {
-        return encode::serialize_mappings(table, chunk, out);
-    }
-    encode::serialize_mappings(table, chunk, &mut out[at..])
+    table
 }
 
 // Writes the table in chunks of `size` tokens; how many bytes they come to.
 fn write_in_chunks(table: &[u32], size: u32, out: &mut [u8]) -> usize {
-    let mut c = zeros();
+    let mut c = TokenChunk::default();
     let mut at: usize = 0;
-    let mut calls: usize = 0;
-    while calls < 25 {
-        c.end = next_end(c.start, size);
-        let r = write_chunk(table, c, out, at);
-        if r.bytes <= 4096 {
-            if at <= 4096 {
-                at += r.bytes;
-            }
-        }
-        let next = r.next;
-        c = next;
-        calls += 1;
+    for _ in 0..25 {
+        c.end = c.start.saturating_add(size).min(24);
+        let Some(room) = out.get_mut(at..) else {
+            return at;
+        };
+        let Ok(written) = encode::serialize_mappings(table, c, room) else {
+            return at;
+        };
+        at = at.saturating_add(written.bytes);
+        c = written.next;
     }
     at
 }
 
-// Whether two numbers of tables differ that stand at one place; where a segment begins is not compared.
-fn differ(i: usize, a: u32, b: u32) -> bool {
-    if i % token::WIDTH == 6 {
-        return false;
-    }
-    a != b
-}
-
+// Whether two tables hold the same tokens; where a segment begins is not compared.
 fn same(a: &[u32; 168], b: &[u32; 168]) -> bool {
-    let mut i: usize = 0;
-    while i < 168 {
-        if differ(i, a[i], b[i]) {
-            return false;
-        }
-        i += 1;
-    }
-    true
+    a.iter()
+        .zip(b.iter())
+        .enumerate()
+        .all(|(i, (x, y))| i % token::WIDTH == 6 || x == y)
 }
 
 fn print_yes(rt: &impl Print, yes: bool) -> io::Result<()> {
-    if yes {
-        return rt.write_all(b" yes");
-    }
-    rt.write_all(b" no")
+    print!(rt; " {}", if yes { "yes" } else { "no" })
 }
 
-fn read_back(text: &[u8], table: &[u32; 168], checked: bool) -> bool {
-    let mut back = [7u32; 168];
-    if checked {
-        decode::decode_checked(text, 5, 1000, &mut back);
-    } else {
-        decode::decode_lenient(text, 5, 1000, &mut back);
-    }
-    same(&back, table)
-}
-
-// The first n bytes, decoded in both modes.
-fn print_both(rt: &impl Print, out: &[u8], n: usize, table: &[u32; 168]) -> io::Result<()> {
-    if n <= out.len() {
-        print_yes(rt, read_back(&out[..n], table, false))?;
-        print_yes(rt, read_back(&out[..n], table, true))?;
-    }
-    Ok(())
+// A text, decoded in both modes.
+fn print_both(rt: &impl Print, text: &[u8], table: &[u32; 168]) -> io::Result<()> {
+    let mut lenient = [7u32; 168];
+    decode::decode_lenient(text, 5, 1000, &mut lenient);
+    print_yes(rt, same(&lenient, table))?;
+    let mut checked = [7u32; 168];
+    decode::decode_checked(text, 5, 1000, &mut checked);
+    print_yes(rt, same(&checked, table))
 }
 
 fn print_run(
@@ -162,38 +102,26 @@ fn print_run(
     let n = write_in_chunks(table, size, out);
     print!(rt; "{size}")?;
     print_yes(rt, n == whole)?;
-    print_both(rt, out, n, table)?;
-    rt.write_all(b"\n")
+    if let Some(text) = out.get(..n) {
+        print_both(rt, text, table)?;
+    }
+    println!(rt)
 }
 
-fn print_sizes(
-    rt: &impl Print,
-    table: &[u32; 168],
-    whole: usize,
-    out: &mut [u8],
-) -> io::Result<()> {
-    let mut size: u32 = 0;
-    while size < 24 {
-        size += 1;
+fn run_all(rt: &impl Print, table: &[u32; 168], out: &mut [u8]) -> io::Result<()> {
+    print!(rt; "premises")?;
+    print_yes(rt, premises::meets_premises(table, 5, 1000))?;
+    print_yes(rt, checked_premises::meets_checked_premises(table, 5, 1000))?;
+    let whole = write_in_chunks(table, 24, out);
+    println!(rt; "\nbytes {whole}")?;
+    for size in 1..=24 {
         print_run(rt, size, table, whole, out)?;
     }
     Ok(())
 }
 
-fn run_all(rt: &impl Print, table: &[u32; 168], out: &mut [u8]) -> io::Result<()> {
-    rt.write_all(b"premises")?;
-    print_yes(rt, premises::meets_premises(table, 5, 1000))?;
-    print_yes(rt, checked_premises::meets_checked_premises(table, 5, 1000))?;
-    let whole = write_in_chunks(table, 24, out);
-    println!(rt; "\nbytes {whole}")?;
-    print_sizes(rt, table, whole, out)
-}
-
 fn main(rt: HostRuntime) -> io::Result<()> {
-    let mut table = [0u32; 168];
     let mut out = [0u8; 4096];
-    fill(true, &mut table);
-    run_all(&rt, &table, &mut out)?;
-    fill(false, &mut table);
-    run_all(&rt, &table, &mut out)
+    run_all(&rt, &table_of(4294967295), &mut out)?;
+    run_all(&rt, &table_of(2147483647), &mut out)
 }

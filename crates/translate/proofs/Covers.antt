@@ -83,18 +83,6 @@ module _ (line source name : ℕ) where
           le-ltb no_id (c.name + name) f.called,
         )
 
-    pub line_passes : no_id < c.line + line → false ≡ cover_fits line source name c
-    unfolding cover_fits
-    line_passes h = simp (lt-ltb no_id (c.line + line) h)
-
-    pub source_passes : c.line + line ≤ no_id → no_id < c.source + source → false ≡ cover_fits line source name c
-    unfolding cover_fits
-    source_passes a h = simp (le-ltb no_id (c.line + line) a, lt-ltb no_id (c.source + source) h)
-
-    pub name_passes : c.line + line ≤ no_id → c.source + source ≤ no_id → no_id < c.name + name → false ≡ cover_fits line source name c
-    unfolding cover_fits
-    name_passes a b h = simp (le-ltb no_id (c.line + line) a, le-ltb no_id (c.source + source) b, lt-ltb no_id (c.name + name) h)
-
 -- ---- a token of 32-bit numbers
 pub record Narrow (t : Token) : Type 0 where
   pub line : t.dst_line ≤ no_id

@@ -21,10 +21,10 @@ pub struct Offsets {
 // Lies over some tokens: none has a line past its line, or an id past its source or name. Ids are counted from 1, so that none is 0:
 // the zeros lie over no token.
 #[derive(Clone, Copy, Default)]
-struct Cover {
-    line: u32,
-    source: u32,
-    name: u32,
+pub struct Cover {
+    pub line: u32,
+    pub source: u32,
+    pub name: u32,
 }
 
 fn from_one(id: u32) -> u32
@@ -46,21 +46,21 @@ fn cover_with(c: Cover, t: Token) -> Cover
 }
 
 // The same for two tokens, as the pass over all tokens reads them.
-fn cover_both(c: Cover, t: Token, u: Token) -> Cover
+pub fn cover_both(c: Cover, t: Token, u: Token) -> Cover
     ensures { Over c t u result }
 {
     cover_with(cover_with(c, t), u)
 }
 
 // Whether no sum passes the range: then no token under the cover is too big. Tests what is left of the range, so that nothing wraps.
-fn cover_fits(c: Cover, by: Offsets) -> bool
+pub fn cover_fits(c: Cover, by: Offsets) -> bool
     ensures { result ≡ cover_fits by.line by.source by.name c }
 {
     by.line <= NONE - c.line && by.source <= NONE - c.source && by.name <= NONE - c.name
 }
 
 // Whether a line sum would pass the range, or an id sum reach none: a cover over one token alone says so exactly.
-fn too_big(t: Token, by: Offsets) -> bool
+pub fn too_big(t: Token, by: Offsets) -> bool
     ensures { result ≡ too_big by.line by.source by.name t }
 {
     !cover_fits(cover_with(Cover::default(), t), by)

@@ -10,12 +10,6 @@ use std::io;
 // No answer has more tokens.
 const PLACES: usize = 2;
 
-// A number and what follows it.
-fn print_number(rt: &impl Print, n: u64, after: &[u8]) -> io::Result<()> {
-    rt.print(n)?;
-    rt.write_all(after)
-}
-
 // The first n tokens, a line each.
 fn print_tokens(rt: &impl Print, table: &[u32; PLACES * token::WIDTH], n: usize) -> io::Result<()>
     requires { n ≤ 2 }
@@ -28,31 +22,15 @@ fn print_tokens(rt: &impl Print, table: &[u32; PLACES * token::WIDTH], n: usize)
 // What a decode in a mode gave.
 fn print_decoded(
     rt: &impl Print,
-    mode: &[u8],
+    mode: &str,
     d: Decoded,
     table: &[u32; PLACES * token::WIDTH],
 ) -> io::Result<()>
     requires { d.tokens ≤ 2 }
 {
-    let code = d.code;
-    rt.write_all(mode)?;
-    print_number(rt, code::code_of(code), b" ")?;
-    print_number(rt, code::number_of(code), b" ")?;
-    print_number(rt, d.tokens as u64, b" ")?;
-    print_number(rt, d.offset as u64, b"\n")?;
+    let a = code::answer_of(d.end);
+    println!(rt; "{mode} {} {} {} {}", a.code, a.number, d.tokens, d.offset)?;
     print_tokens(rt, table, d.tokens)
-}
-
-fn lenient(rt: &impl Print, text: &[u8], sources: u32, names: u32) -> io::Result<()> {
-    let mut table = [0u32; PLACES * token::WIDTH];
-    let d = decode::decode_lenient(text, sources, names, &mut table);
-    print_decoded(rt, b"lenient ", d, &table)
-}
-
-fn checked(rt: &impl Print, text: &[u8], sources: u32, names: u32) -> io::Result<()> {
-    let mut table = [0u32; PLACES * token::WIDTH];
-    let d = decode::decode_checked(text, sources, names, &mut table);
-    print_decoded(rt, b"checked ", d, &table)
 }
 
 // A text with its counts, in both modes.
@@ -60,8 +38,12 @@ fn row(rt: &impl Print, text: &[u8], sources: u32, names: u32) -> io::Result<()>
     rt.write_all(b"\"")?;
     rt.write_all(text)?;
     println!(rt; "\" {sources} {names}")?;
-    lenient(rt, text, sources, names)?;
-    checked(rt, text, sources, names)
+    let mut table = [0u32; PLACES * token::WIDTH];
+    let lenient = decode::decode_lenient(text, sources, names, &mut table);
+    print_decoded(rt, "lenient", lenient, &table)?;
+    let mut table = [0u32; PLACES * token::WIDTH];
+    let checked = decode::decode_checked(text, sources, names, &mut table);
+    print_decoded(rt, "checked", checked, &table)
 }
 
 fn main(rt: HostRuntime) -> io::Result<()> {

@@ -7,10 +7,10 @@ pub returns-then-input-gt-MOST : goal.returns-then-input-gt-MOST
 returns-then-input-gt-MOST c = put_too_long _ _ _ _ c.if-input-gt-MOST.true c.put_input.ensures
 
 pub slice_bounds-render_text-start : goal.slice_bounds-render_text-start
-slice_bounds-render_text-start c = begins_within _ _ c.first_line-line.ensures _ _ _ c.in-Counts.is
+slice_bounds-render_text-start c = begins_within _ _ c.in-Some.ensures
 
-pub returns-in-Counts : goal.returns-in-Counts
-returns-in-Counts c = put_text _ _ _ _ c.if-input-gt-MOST.false _ c.first_line-line.ensures _ _ _ c.in-Counts.is c.render_text.ensures
+pub returns-in-Some : goal.returns-in-Some
+returns-in-Some c = put_text _ _ _ _ c.if-input-gt-MOST.false _ c.in-Some.ensures c.render_text.ensures
 
-pub returns-in-Bad : goal.returns-in-Bad
-returns-in-Bad c = put_bad _ _ _ _ c.if-input-gt-MOST.false _ c.first_line-line.ensures c.in-Bad.is c.put_input-in-Bad.ensures
+pub returns-in-None : goal.returns-in-None
+returns-in-None c = put_bad _ _ _ _ c.if-input-gt-MOST.false c.in-None.ensures c.put_input-in-None.ensures

@@ -1,10 +1,6 @@
--- `dump_cases::each_case` meets its contract. Assumes nothing.
-use Prim.Native.Nat.{◌≤◌, ◌-◌}
+-- `dump_cases::each_case` ends. Assumes nothing.
 use lib.ListN.{length}
 use Rattle.dump_cases.proofs.each_case.Given as goal
 
-abbrev pub invariant-loop-at : goal.invariant-loop-at
-invariant-loop-at g l = l.at ≤ length l.cases
-
-abbrev pub decreases-loop-at : goal.decreases-loop-at
-decreases-loop-at g l = length l.cases - l.at
+abbrev pub decreases-loop-size : goal.decreases-loop-size
+decreases-loop-size g l = length l.rest

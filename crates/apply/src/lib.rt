@@ -102,7 +102,8 @@ fn token_of(s: State, source_id: u32, name_id: u32) -> Token
     }
 }
 
-// 1. The column; the place moves past the segment.
+// 1. The column; the place moves past the segment. That a segment is small is a clause here and below, and no invariant of Segment:
+// definitions make segments too, and each would have to carry the proof.
 #[tactic(auto, using(crate::proofs::Laws::held), unfolding(crate::specs::Apply::columned))]
 fn column(limits: Limits, s: State, g: Segment) -> Result<State, Refusal>
     requires { Small g }

@@ -17,7 +17,7 @@ fn near(a: u32, b: u32) -> bool
     a.abs_diff(b) < 2147483648
 }
 
-// So is each step of the token, after a state.
+// So is each step of the token, after a state. Its ids are numbers, as C's tables hold them, and no Options.
 fn near_all(p: TokenChunk, t: Token) -> bool
     ensures { result ≡ takes_each Mode.Checked (fields_of p t) }
 {

@@ -21,7 +21,7 @@ pub fn base_of(p: TokenChunk, t: Token) -> u32
     }
 }
 
-// The state that a token leaves.
+// The state that a token leaves. Here and below an id is none by the number that C's tables hold, and is no Option.
 pub fn after(p: TokenChunk, t: Token) -> TokenChunk
     ensures { result ≡ after p t }
 {

@@ -9,7 +9,7 @@ ghost use Rattle.compare_tables.specs.Walks.{Walks, Counts};
 
 use code::Code;
 
-// How many differences there are.
+// How many differences there are. Here and below two cursors move, each by its own steps; so it is no `for`.
 fn count(left: &[u32], right: &[u32]) -> usize
     requires { Walks left.now right.now }
     ensures { Counts left.now right.now result }

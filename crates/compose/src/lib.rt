@@ -131,7 +131,8 @@ fn mapped_to(t: Token, o: Token) -> Token
     }
 }
 
-// The inner token that an outer one leads to, if it has a source. It is sought from `place`, which then is where the next one is.
+// The inner token that an outer one leads to, if it has a source. It is sought from `place`, which then is where the
+// next one is. An id is none by the number that C's tables hold, and is no Option.
 fn origin(inner: &[u32], halves: bool, place: &mut usize, t: Token) -> Option<Token>
     requires { (bad_table (length inner.now) ≡ false) × (halves ≡ true → Halvable inner.now place.old) }
     ensures { Leads inner.now halves t result place.new }

@@ -35,7 +35,7 @@ impl Before {
     }
 }
 
-// An id is none or below its count.
+// An id is none, by the number that C's tables hold, or below its count.
 fn id_within(count: u32, id: u32) -> bool
     ensures { result ≡ id_within count id }
 {
@@ -45,7 +45,7 @@ fn id_within(count: u32, id: u32) -> bool
     id < count
 }
 
-// The token may stand there.
+// The token may stand there. Its ids are numbers, as C's tables hold them, and no Options.
 pub fn follows_ok(sources: u32, names: u32, before: Before, t: Token) -> bool
     ensures { result ≡ follows sources names before.line before.src_line before.src_col t }
 {

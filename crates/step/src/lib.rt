@@ -163,7 +163,8 @@ fn crossed(st: State, b: u8) -> State
     State { at, ..st }
 }
 
-// Past the delimiters that stand at the state's place.
+// Past the delimiters that stand at the state's place. The place is a part of the state, which each delimiter moves, and no index of the
+// loop's own; so it is no `for`.
 pub fn next_segment(s: &[u8], from: State) -> State
     ensures { Passed s.now from result }
 {

@@ -4,7 +4,8 @@
 ghost use Rattle.std.specs.Prelude.{◌≡◌, ◌<◌, length};
 ghost use Rattle.token.specs.Table.{with_segment, places, bad_table, token_at, put_token};
 
-// As an id, or as where a segment begins: none.
+// As an id, or as where a segment begins: none. Ids are numbers of a lent table, where C says none by this one; so they are tested as
+// numbers and are no Option.
 pub const NONE: u32 = 4294967295;
 
 // The numbers a token takes in a table.

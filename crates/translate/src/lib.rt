@@ -66,7 +66,7 @@ pub fn too_big(t: Token, by: Offsets) -> bool
     !cover_fits(cover_with(Cover::default(), t), by)
 }
 
-// None stays none.
+// None stays none. An id is a number of C's table before and after, and no Option.
 fn id_moved(id: u32, offset: u32) -> u32
     requires { id_too_big id offset ≡ false }
     ensures { result ≡ id_moved id offset }

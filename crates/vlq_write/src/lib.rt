@@ -54,7 +54,8 @@ pub fn step_size(a: u32, b: u32) -> u64
     vlq_size(vlq_value(a, b))
 }
 
-// Writes the digits of `num` from `at` on, and gives the place after them.
+// Writes the digits of `num` from `at` on, and gives the place after them. How many there are is known when the number is used up; so
+// it is no `for`.
 pub fn encode_vlq(out: &mut [u8], at: usize, num: u64) -> usize
     requires { at + length (write_of num) ≤ length out.old }
     ensures { Put out.old at (write_of num) result out.new }

@@ -9,7 +9,6 @@ use lib.ListN.{length, take, drop, get_or, length-drop}
 use lib.Seq.{drop-cons, drop-drop}
 use Rattle.list.specs.Pick.{pick}
 use Rattle.list.specs.Memory.{onto}
-use Rattle.code.specs.declared.Code.{Code}
 use Rattle.digits.specs.Digits.{is_delim}
 use Rattle.token.specs.Table.{no_segment, with_segment, places, token_at, tokens_from, flat, over}
 use Rattle.token.specs.declared.Token.{Token}

@@ -1,16 +1,15 @@
 -- Where the decode that names no mode takes a text, no value and no sum lost a bit. Assumes nothing.
-use Rattle.std.specs.Prelude.{Some, None, Ok, Err}
+use Rattle.std.specs.Prelude.{Some, None, Ok}
 use mathlib.Core.Path.{◌≡◌, refl, ◌∙◌, ap, subst}
 use mathlib.Core.List.{List, ◌∷◌}
 use Prim.Native.Nat.{ℕ, ◌+◌, ◌-◌, ◌<◌}
 use native.Mathlib.Omega.{arith}
 use lib.ListN.{length, drop}
 use lib.Seq.{drop-drop}
-use Rattle.code.specs.declared.Code.{Code}
 use Rattle.token.specs.Table.{no_segment, with_segment, places}
 use Rattle.token.specs.declared.Token.{Token}
 use Rattle.apply.specs.declared.State.{State}
-use Rattle.step.specs.Step.{start, step_at, refused, Step}
+use Rattle.step.specs.Step.{start, step_at, Step}
 use Rattle.decode.specs.declared.Decoded.{Decoded}
 use Rattle.decode.specs.Mapping.{Out, run, decoded, Decodes}
 use Rattle.decode.proofs.Runs.{run_by}

@@ -16,13 +16,13 @@ use Rattle.segment.specs.Segment.{Field, Fields, leftover, overflow, starts, fie
 use Rattle.segment.specs.Segment as segment
 use Rattle.segment.proofs.Border.{Border, Ends, ends}
 use Rattle.apply.specs.declared.State.{State}
-use Rattle.apply.specs.Apply.{applied, refusal, Applied}
+use Rattle.apply.specs.Apply.{applied, Applied}
 use Rattle.apply.proofs.Lands.{Lands, lands}
-use Rattle.step.specs.Step.{commaed, lined, stepped, segment_step, step_from, refused, Step}
+use Rattle.step.specs.Step.{commaed, lined, stepped, segment_step, step_from, Step}
 use Rattle.exact.specs.Text.{Segment, nothing, Delimiter, comma, semicolon, character, Part, spell_segment, spell_parts, Numbers, added, delimited, token_of, parts_tokens}
 use Rattle.exact.specs.Exact.{mode, as_read, wholes}
 use Rattle.exact.proofs.Fields.{Parted, parted}
-use Rattle.exact.proofs.Sums.{other, Tracks, Takes, takes}
+use Rattle.exact.proofs.Sums.{Tracks, Takes, takes}
 
 -- the bytes at the state's place, which begin with a delimiter or are none, and the tokens to come
 pub record Behind (s : State) (bs : List ℕ) (ts : List Token) : Type 0 where

@@ -10,7 +10,7 @@ use native.Mathlib.Omega.{arith}
 use lib.Dec.{ltb}
 use lib.IntN.{ℤ, pos, negsuc, ◌+ℤ◌}
 use lib.ListN.{length}
-use borrow.Author.Tests.{ltb-false, lt-ltb, ne_eqb}
+use borrow.Author.Tests.{lt-ltb, ne_eqb}
 use Rattle.list.specs.Pick.{pick, both}
 use Rattle.list.proofs.Pick.{pick_ind}
 use Rattle.code.specs.declared.Code.{Code}
@@ -18,7 +18,7 @@ use Rattle.token.specs.Table.{no_id}
 use Rattle.token.specs.declared.Token.{Token}
 use Rattle.value.specs.Value.{number_of, is_wide}
 use Rattle.vlq.specs.Runs.{spell}
-use Rattle.segment.specs.Segment.{Field, whole, wide_from, gathered}
+use Rattle.segment.specs.Segment.{Field, wide_from, gathered}
 use Rattle.segment.specs.declared.Segment as read
 use Rattle.sums.specs.Sums.{reduced_of, sum_of, id_of, name_sum_of}
 use Rattle.apply.specs.declared.State.{State}

@@ -9,7 +9,6 @@ use native.Mathlib.Omega.{arith}
 use lib.ListN.{length, take, drop}
 use lib.Seq.{drop-append_seam}
 use Rattle.list.specs.Memory.{onto}
-use Rattle.code.specs.declared.Code.{Code}
 use Rattle.token.specs.Table.{width, first_six, SameTokens, places, tokens_of, flat, over}
 use Rattle.token.specs.declared.Token.{Token}
 use Rattle.token.proofs.Laws.{length_flat, length_tokens, tokens_flat}

@@ -10,7 +10,6 @@ use lib.Dec.{ltb, leb}
 use lib.ListN.{length}
 use borrow.Author.Tests.{lt-ltb, le-ltb, ltb-true, leb-true}
 use Rattle.list.specs.Pick.{pick, both}
-use Rattle.code.specs.declared.Code.{Code}
 use Rattle.token.specs.Table.{is_none, bad_table, tokens_of, flat}
 use Rattle.token.specs.declared.Token.{Token}
 use Rattle.token.specs.declared.TokenChunk.{TokenChunk}

@@ -11,14 +11,13 @@ use lib.ListN.{length, drop, length-append}
 use lib.Seq.{drop-drop, drop-append_seam}
 use borrow.Author.Tests.{ne_eqb}
 use Rattle.list.specs.Pick.{pick}
-use Rattle.code.specs.declared.Code.{Code}
 use Rattle.token.specs.Table.{no_segment, with_segment, first_six, SameTokens, flat}
 use Rattle.token.specs.declared.Token.{Token}
 use Rattle.token.proofs.Same.{bare}
 use Rattle.token.specs.declared.TokenChunk.{TokenChunk}
 use Rattle.digits.specs.Digits.{is_delim}
 use Rattle.value.specs.declared.Mode.{Mode}
-use Rattle.segment.specs.Segment.{Field, whole, starts, fields_from, segment_of, gathered}
+use Rattle.segment.specs.Segment.{Field, whole, starts, fields_from, gathered}
 use Rattle.apply.specs.declared.State.{State}
 use Rattle.apply.specs.Apply.{applied, Applied}
 use Rattle.step.specs.Step.{stepped, segment_step, step_from, step_at}

@@ -1,6 +1,6 @@
 -- The first field that is too wide, as the fields grow; and where none is. Assumes nothing.
 use Rattle.std.proofs.Common.{◌≡◌, ℕ, ◌+◌, ◌<◌, Bool, true, false, ltb, List, [], ◌∷◌, ◌++◌, length, refl, ap, ◌∙◌, arith, ltb-true}
-use Rattle.std.specs.Prelude.{Option, Some, None}
+use Rattle.std.specs.Prelude.{Option, Some}
 use Rattle.list.specs.Pick.{pick, both}
 use Rattle.value.specs.Value.{is_wide}
 use Rattle.segment.specs.Segment.{Field, wide_from}

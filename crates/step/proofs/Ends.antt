@@ -11,12 +11,12 @@ use lib.Seq.{drop-cons, drop-drop}
 use Rattle.list.specs.Pick.{pick}
 use Rattle.token.specs.declared.Token.{Token}
 use Rattle.value.specs.declared.Mode.{Mode}
-use Rattle.segment.specs.Segment.{Fields, whole, leftover, overflow, starts, segment_of, fields_from, gathered}
+use Rattle.segment.specs.Segment.{Fields, whole, leftover, overflow, starts, fields_from, gathered}
 use Rattle.segment.proofs.Border.{Border, Ends, ends}
-use Rattle.apply.specs.Apply.{applied, refusal, Applied}
+use Rattle.apply.specs.Apply.{applied, Applied}
 use Rattle.apply.specs.declared.State.{State}
 use Rattle.apply.proofs.Lands.{Lands, lands}
-use Rattle.step.specs.Step.{commaed, lined, stepped, segment_step, step_from, step_at, refused, Step}
+use Rattle.step.specs.Step.{commaed, lined, stepped, segment_step, step_from, step_at, Step}
 use Rattle.step.specs.Ways.{Closes}
 
 module _ (mode : Mode) (sources names : ℕ) where

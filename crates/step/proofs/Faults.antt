@@ -12,16 +12,16 @@ use Rattle.list.specs.Pick.{pick}
 use Rattle.digits.specs.Digits.{is_delim}
 use Rattle.token.specs.declared.Token.{Token}
 use Rattle.value.specs.declared.Mode.{Mode}
-use Rattle.segment.specs.Segment.{Field, Fields, whole, leftover, overflow, starts, segment_of, fields_from, gathered}
+use Rattle.segment.specs.Segment.{Field, Fields, whole, leftover, overflow, starts, fields_from, gathered}
 use Rattle.segment.proofs.Border.{Border, Ends, ends}
 use Rattle.segment.proofs.Within.{Each, Clear, Between, Lies, lies, fewer_clear, fields_take}
-use Rattle.apply.specs.Apply.{applied, refusal, Applied}
+use Rattle.apply.specs.Apply.{applied, Applied}
 use Rattle.apply.specs.declared.State.{State}
 use Rattle.apply.specs.declared.About.{About}
 use Rattle.apply.proofs.Lands.{Lands, lands}
 use Rattle.apply.proofs.Points.{Pointed, Points, points}
 use Rattle.segment.proofs.TooWide.{wide_has}
-use Rattle.step.specs.Step.{commaed, lined, offset_of, stepped, segment_step, step_from, refused, Step}
+use Rattle.step.specs.Step.{commaed, lined, offset_of, stepped, segment_step, step_from, Step}
 
 zero_one : {A : Type 0} → ◌≡◌ {A = ℕ} 0 1 → A
 zero_one z = absurd (omega arith)

@@ -11,7 +11,6 @@ use lib.ListN.{length, drop, get_or, drop_of_length-le}
 use lib.Seq.{drop-cons}
 use borrow.Author.Tests.{ne_eqb, eqb-true}
 use Rattle.list.specs.Pick.{pick}
-use Rattle.code.specs.declared.Code.{Code}
 use Rattle.digits.specs.Digits.{is_delim}
 use Rattle.value.specs.declared.Mode.{Mode}
 use Rattle.segment.specs.Segment.{Field, Fields, whole, leftover, overflow, starts, fields_from, segment_of, segment_at, gathered}
@@ -19,7 +18,7 @@ use Rattle.segment.specs.Fields.{place_from}
 use Rattle.segment.specs.declared.Segment.{Segment}
 use Rattle.segment.proofs.Range.{nums_small}
 use Rattle.segment.proofs.Places.{own}
-use Rattle.apply.specs.Apply.{applied, refusal, Applied}
+use Rattle.apply.specs.Apply.{applied, Applied}
 use Rattle.apply.specs.Small.{Small}
 use Rattle.apply.specs.declared.State.{State}
 use Rattle.apply.specs.declared.About.{About}

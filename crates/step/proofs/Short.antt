@@ -12,7 +12,7 @@ use Rattle.value.specs.declared.Mode.{Mode}
 use Rattle.value.proofs.Standard.{value_plain}
 use Rattle.vlq.proofs.Steps.{at_delim}
 use Rattle.vlq.proofs.Values as values
-use Rattle.segment.specs.Segment.{Field, whole, before, fields_from, wide_from, segment_of, segment_at, gathered}
+use Rattle.segment.specs.Segment.{Field, whole, before, fields_from, wide_from, segment_at, gathered}
 use Rattle.segment.proofs.Reach.{answered, past}
 use Rattle.token.specs.Table.{no_id}
 use Rattle.apply.specs.Apply.{state, shown, applied}

@@ -1,19 +1,17 @@
 -- Each turn of the loop that counts segments. Assumes nothing.
-use mathlib.Core.Path.{◌≡◌, sym, ◌∙◌}
+use mathlib.Core.Path.{◌≡◌, ◌∙◌}
 use mathlib.Core.Bool.{Bool, true, false, not}
-use mathlib.Core.Logic.{⊎_elim}
 use mathlib.Core.List.{List, ◌∷◌}
 use Prim.Native.Nat.{ℕ, ◌+◌, ◌*◌, ◌/◌, ◌<◌, ◌≤◌}
 use native.Mathlib.Omega.{arith}
 use native.Mathlib.Numerals.{add-one}
-use lib.Dec.{eqb, ltb}
+use lib.Dec.{ltb}
 use lib.ListN.{length, drop, get_or, drop_of_length-le}
 use lib.Seq.{drop-cons}
-use borrow.Author.Tests.{lt-ltb, le-ltb, eq-eqb, ne_eqb}
+use borrow.Author.Tests.{lt-ltb, le-ltb}
 use Rattle.list.specs.Pick.{pick}
 use Rattle.token.specs.Table.{width}
-use Rattle.digits.specs.Digits.{is_delim, class_of}
-use Rattle.digits.proofs.Tables.{code_cases}
+use Rattle.digits.specs.Digits.{is_delim}
 use Rattle.table_size.specs.Size.{segments_from}
 
 -- the segments that begin before the i-th byte are counted

@@ -17,9 +17,9 @@ use Rattle.value.specs.declared.Mode.{Mode}
 use Rattle.segment.specs.Segment.{Fields, whole, leftover, overflow, starts, fields_from, gathered}
 use Rattle.segment.proofs.Border.{Border, Ends, ends}
 use Rattle.apply.specs.declared.State.{State}
-use Rattle.apply.specs.Apply.{applied, refusal, Applied}
+use Rattle.apply.specs.Apply.{applied, Applied}
 use Rattle.apply.proofs.Lands.{Plain, Lands, lands}
-use Rattle.step.specs.Step.{start, commaed, lined, stepped, segment_step, step_from, step_at, refused, Step}
+use Rattle.step.specs.Step.{start, commaed, lined, stepped, segment_step, step_from, step_at, Step}
 use Rattle.decode.specs.Mapping.{Out, run, decoded}
 use Rattle.decode.proofs.Runs.{run_by}
 use Rattle.table_size.specs.Size.{segments_from, table_size, NeverFull}

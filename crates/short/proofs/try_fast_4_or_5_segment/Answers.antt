@@ -1,7 +1,6 @@
 -- `short::try_fast_4_or_5_segment` meets its contract. Assumes nothing.
-use borrow.Author.Rules.{rules}
-use Rattle.std.proofs.Common.{◌+◌, get_or, sym, refl, ◌∙◌, arith}
-use Rattle.short.proofs.Laws.{at_most_five, second_fits, shaped}
+use Rattle.std.proofs.Common.{sym, refl, ◌∙◌, arith}
+use Rattle.short.proofs.Laws.{second_fits, shaped}
 use Rattle.short.proofs.try_fast_4_or_5_segment.Goals as goal
 
 pub with_second-requires : goal.with_second-requires

@@ -1,5 +1,4 @@
 -- `step::general_step` meets its contract. Assumes nothing.
-use Rattle.std.proofs.Common.{◌∙◌}
 use Rattle.step.proofs.Laws.{general}
 use Rattle.step.proofs.general_step.Goals as goal
 

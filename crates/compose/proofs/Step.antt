@@ -1,11 +1,10 @@
 -- The inner token that an outer one leads to, branch by branch. Assumes nothing.
 use mathlib.Core.Path.{◌≡◌, sym}
-use mathlib.Core.Bool.{Bool, true}
 use mathlib.Core.List.{List}
 use Prim.Native.Nat.{ℕ, ◌<◌}
 use lib.ListN.{length}
 use borrow.Author.Tests.{eq-eqb, ne_eqb}
-use Rattle.std.specs.Prelude.{Some, None}
+use Rattle.std.specs.Prelude.{Option, Some, None, IfSome}
 use Rattle.token.specs.Table.{places, token_at, no_id}
 use Rattle.token.specs.declared.Token.{Token}
 use Rattle.lookup.specs.Lookup.{lookup_of}
@@ -14,13 +13,13 @@ use Rattle.seek.specs.Seek.{Halvable}
 use Rattle.compose.specs.Compose.{made_of}
 use Rattle.compose.specs.Steps.{Leads}
 
-module _ (table : List ℕ) (halves : Bool) (t : Token) (place : ℕ) (next : halves ≡ true → Halvable table place) where
-  pub no_source : t.source_id ≡ no_id → Leads table halves t None place
+module _ (table : List ℕ) (t : Token) (place : Option ℕ) (next : IfSome place (Halvable table)) where
+  pub no_source : t.source_id ≡ no_id → Leads table t None place
   unfolding made_of
   no_source e = record { made = λ inner outer added. rw (eq-eqb t.source_id no_id e); next = next }
 
   module _ (s : t.source_id ≡ no_id → ⊥) where
-    pub not_found : None ≡ lookup_of table t.src_line t.src_col → Leads table halves t None place
+    pub not_found : None ≡ lookup_of table t.src_line t.src_col → Leads table t None place
     unfolding made_of
     not_found e = record { made = λ inner outer added. rw (ne_eqb t.source_id no_id s, ← e); next = next }
 
@@ -29,10 +28,10 @@ module _ (table : List ℕ) (halves : Bool) (t : Token) (place : ℕ) (next : ha
       within = (best table t.src_line t.src_col at (sym e)).fits.within
 
       module _ (o : Token) (eo : o ≡ token_at table at) where
-        pub sourceless : o.source_id ≡ no_id → Leads table halves t None place
+        pub sourceless : o.source_id ≡ no_id → Leads table t None place
         unfolding made_of
         sourceless f = record { made = λ inner outer added. rw (ne_eqb t.source_id no_id s, ← e, ← eo, eq-eqb o.source_id no_id f); next = next }
 
-        pub sourced : (o.source_id ≡ no_id → ⊥) → Leads table halves t (Some o) place
+        pub sourced : (o.source_id ≡ no_id → ⊥) → Leads table t (Some o) place
         unfolding made_of
         sourced n = record { made = λ inner outer added. rw (ne_eqb t.source_id no_id s, ← e, ← eo, ne_eqb o.source_id no_id n); next = next }

@@ -1,6 +1,5 @@
 -- The loop over the outer tokens. Assumes nothing.
 use mathlib.Core.Path.{◌≡◌, refl, ap, ap₂, sym, ◌∙◌, subst}
-use mathlib.Core.Bool.{Bool, true}
 use mathlib.Core.List.{List, [], ◌∷◌, ◌++◌, append_assoc, append-nil}
 use Prim.Native.Nat.{ℕ, ◌+◌, ◌-◌, ◌≤◌, ◌<◌}
 use native.Mathlib.Omega.{arith}
@@ -10,7 +9,7 @@ use lib.Seq.{take_at, drop-append-add, drop-drop}
 use Rattle.list.specs.Memory.{onto}
 use Rattle.list.proofs.Memory.{onto_nil, length_onto}
 use Rattle.list.proofs.Pick.{pick_ind}
-use Rattle.std.specs.Prelude.{Option, Some, None}
+use Rattle.std.specs.Prelude.{Option, Some, None, IfSome}
 use Rattle.token.specs.Table.{places, token_at, tokens_from, tokens_of, put_token, flat, over, no_id, is_none}
 use Rattle.token.specs.declared.Token.{Token}
 use Rattle.token.proofs.Laws.{put_over, tokens_step, tokens_none}
@@ -46,7 +45,7 @@ after_ahead ts t r = ap (λ (l : List Token). result l) (sym (append_assoc ts (t
     result l = record { tokens = l; added = r.added }
 
 -- the first i tokens of the result are made, and these names added
-pub record Sofar (inner outer : NameList) (table tokens result₀ added₀ : List ℕ) (halves : Bool) (result added : List ℕ) (k : Known) (place i : ℕ) : Type 0 where
+pub record Sofar (inner outer : NameList) (table tokens result₀ added₀ : List ℕ) (result added : List ℕ) (k : Known) (place : Option ℕ) (i : ℕ) : Type 0 where
   pub ts : List Token
   pub ids : List ℕ
   pub made : length ts ≡ i
@@ -54,7 +53,7 @@ pub record Sofar (inner outer : NameList) (table tokens result₀ added₀ : Lis
   pub kept : Kept inner outer ids
   pub wrote : result ≡ over ts result₀
   pub lists : Lists inner outer ids added₀ k added
-  pub next : halves ≡ true → Halvable table place
+  pub next : IfSome place (Halvable table)
   pub is : composed_from inner outer table [] (tokens_of tokens)
       ≡ after ts (composed_from inner outer table ids (tokens_from tokens i (places (length tokens) - i)))
 
@@ -69,12 +68,12 @@ no_fewer_made inner outer ids t None = omega arith
 no_fewer_made inner outer ids t (Some o) =
     pick_ind (λ (n : Named). length ids ≤ length n.added) (is_none o.name_id) (λ e. no_fewer inner outer ids t.name_id) (λ e. omega arith)
 
-module _ (inner outer : NameList) (table tokens result₀ added₀ : List ℕ) (halves : Bool)
+module _ (inner outer : NameList) (table tokens result₀ added₀ : List ℕ)
     (rd : Ready inner outer table tokens (length result₀) (length added₀)) where
-  pub begin : (halves ≡ true → Halvable table 0)
-      → Sofar inner outer table tokens result₀ added₀ halves result₀ added₀ (record { count = 0; last = no_id; given = no_id }) 0 0
+  pub begin : (place : Option ℕ) → IfSome place (Halvable table)
+      → Sofar inner outer table tokens result₀ added₀ result₀ added₀ (record { count = 0; last = no_id; given = no_id }) place 0
   unfolding flat
-  begin next =
+  begin place next =
       record {
         ts = [];
         ids = [];
@@ -91,7 +90,7 @@ module _ (inner outer : NameList) (table tokens result₀ added₀ : List ℕ) (
         is = rw (sub-zero (places (length tokens)));
       }
 
-  module _ (result added : List ℕ) (k : Known) (place i : ℕ) (s : Sofar inner outer table tokens result₀ added₀ halves result added k place i) where
+  module _ (result added : List ℕ) (k : Known) (place : Option ℕ) (i : ℕ) (s : Sofar inner outer table tokens result₀ added₀ result added k place i) where
     few_ids : length s.ids ≤ length added₀
     few_ids = omega (arith, kept_few inner outer s.ids s.kept, rd.roomy)
 
@@ -120,7 +119,7 @@ module _ (inner outer : NameList) (table tokens result₀ added₀ : List ℕ) (
           listed = s.lists.listed ∙ ap (λ (r : Composition). onto r.added added₀) (sym e);
         }
 
-    module _ (t : Token) (o : Option Token) (place' : ℕ) (l : Leads table halves t o place') (k' : Known) (added' : List ℕ)
+    module _ (t : Token) (o : Option Token) (place' : Option ℕ) (l : Leads table t o place') (k' : Known) (added' : List ℕ)
         (q : Lists inner outer (made_by inner outer (take k.count added) t o).added added k' added') where
       next : Made
       next = made_of inner outer table s.ids t
@@ -142,7 +141,7 @@ module _ (inner outer : NameList) (table tokens result₀ added₀ : List ℕ) (
 
       pub turn : t ≡ token_at tokens i → i < places (length tokens) → (result' : List ℕ) (u : Token)
           → u ≡ (made_by inner outer (take k.count added) t o).token → result' ≡ put_token result i u
-          → Sofar inner outer table tokens result₀ added₀ halves result' added' k' place' (i + 1)
+          → Sofar inner outer table tokens result₀ added₀ result' added' k' place' (i + 1)
       unfolding next composed_from
       turn et g result' u eu ep =
           record {

@@ -1,6 +1,6 @@
 -- Helpers: what inner contracts and proofs need; no contract of an entry and no theorem reaches this file.
 -- What the steps of composing answer, in terms of its definitions. Assumes nothing.
-use Rattle.std.specs.Prelude.{◌≡◌, Bool, true, false, Option, Some, None, Result, Ok, Err, ⊤, List, [], ℕ, ◌≤◌, length, take}
+use Rattle.std.specs.Prelude.{◌≡◌, true, false, Option, Some, None, IfSome, Result, Ok, Err, ⊤, List, [], ℕ, ◌≤◌, length, take}
 use Rattle.list.specs.Memory.{onto}
 use Rattle.list.specs.Pick.{pick}
 use Rattle.code.specs.declared.Code.{Code}
@@ -25,10 +25,10 @@ made_by inner outer added t None = unmapped t added
 made_by inner outer added t (Some o) =
     mapped_to t o (pick (is_none o.name_id) (outer_named inner outer added t.name_id) (record { id = o.name_id; added = added }))
 
--- r is the inner token with a source that t leads to, and the next token may be sought from the place
-pub record Leads (table : List ℕ) (halves : Bool) (t : Token) (r : Option Token) (place : ℕ) : Type 0 where
+-- r is the inner token with a source that t leads to, and the next token may be sought from the place, if there is one
+pub record Leads (table : List ℕ) (t : Token) (r : Option Token) (place : Option ℕ) : Type 0 where
   pub made : (inner outer : NameList) (added : List ℕ) → made_by inner outer added t r ≡ made_of inner outer table added t
-  pub next : halves ≡ true → Halvable table place
+  pub next : IfSome place (Halvable table)
 
 -- the added names so far are the first of the list, and the last id that was asked for would be given the same again
 pub record Knows (inner outer : NameList) (ids : List ℕ) (k : Known) : Type 0 where

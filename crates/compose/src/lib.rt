@@ -1,7 +1,7 @@
 // Composes an outer map with the map of its input.
 #![tactic(auto)]
 
-ghost use Rattle.std.specs.Prelude.{◌≡◌, true, false, [], List, ℕ, ◌<◌, length, take};
+ghost use Rattle.std.specs.Prelude.{◌≡◌, false, IfSome, [], List, ℕ, ◌<◌, length, take};
 ghost use Rattle.token.specs.Table.{bad_table, tokens_of};
 ghost use Rattle.seek.specs.Seek.{Halvable};
 ghost use Rattle.names.specs.Names.{NameList, list_of};
@@ -133,14 +133,14 @@ fn mapped_to(t: Token, o: Token) -> Token
 
 // The inner token that an outer one leads to, if it has a source. It is sought from `place`, which then is where the
 // next one is. An id is none by the number that C's tables hold, and is no Option.
-fn origin(inner: &[u32], halves: bool, place: &mut usize, t: Token) -> Option<Token>
-    requires { (bad_table (length inner.now) ≡ false) × (halves ≡ true → Halvable inner.now place.old) }
-    ensures { Leads inner.now halves t result place.new }
+fn origin(inner: &[u32], place: &mut Option<usize>, t: Token) -> Option<Token>
+    requires { (bad_table (length inner.now) ≡ false) × IfSome place.old (Halvable inner.now) }
+    ensures { Leads inner.now t result place.new }
 {
     if t.source_id == token::NONE {
         return None;
     }
-    let s = seek::seek(inner, halves, *place, t.src_line, t.src_col);
+    let s = seek::seek(inner, *place, t.src_line, t.src_col);
     *place = s.place;
     let o = token::token_at(inner, s.at? as usize);
     if o.source_id == token::NONE {
@@ -188,16 +188,15 @@ fn write_tokens<F: Finder>(
     requires holds { F.Holds finder.old (list_of inner.names) (list_of outer.names) [] }
     ensures { Written (composed_from (list_of inner.entry.names) (list_of outer.entry.names) inner.entry.table.now [] (tokens_of outer.entry.table.now)) res.old added.old result res.new added.new }
 {
-    let halves = seek::can_halve(inner.table);
     let mut known = Known {
         count: 0,
         last: token::NONE,
         given: token::NONE,
     };
-    let mut place: usize = 0;
+    let mut place = seek::first_place(inner.table);
     for i in 0..token::places_in(outer.table.len()) {
         let t = token::token_at(outer.table, i);
-        let found = origin(inner.table, halves, &mut place, t);
+        let found = origin(inner.table, &mut place, t);
         let made = made_token(
             t,
             found,

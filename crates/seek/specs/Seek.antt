@@ -1,6 +1,6 @@
 -- Helpers: what inner contracts and proofs need; no contract of an entry and no theorem reaches this file.
 -- Looking up one position after another. Assumes nothing.
-use Rattle.std.specs.Prelude.{◌≡◌, ℕ, ◌<◌, Bool, true, List, length}
+use Rattle.std.specs.Prelude.{◌≡◌, ℕ, ◌<◌, IfSome, List, length}
 use Rattle.token.specs.Table.{places}
 use Rattle.order.specs.Keys.{Rising}
 use Rattle.lookup.specs.Lookup.{lookup_of}
@@ -12,6 +12,6 @@ pub record Halvable (table : List ℕ) (place : ℕ) : Type 0 where
   pub within : place < places (length table)
 
 -- what is found at a position, and that the next may be sought from there
-pub record Seeks (table : List ℕ) (halves : Bool) (line col : ℕ) (r : Sought) : Type 0 where
+pub record Seeks (table : List ℕ) (line col : ℕ) (r : Sought) : Type 0 where
   pub found : r.at ≡ lookup_of table line col
-  pub next : halves ≡ true → Halvable table r.place
+  pub next : IfSome r.place (Halvable table)

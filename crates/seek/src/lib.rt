@@ -1,7 +1,7 @@
 // Finds the tokens at positions that come one after another: in a sorted table by halving, near the last place first.
 #![tactic(auto)]
 
-ghost use Rattle.std.specs.Prelude.{◌≡◌, true, false, length};
+ghost use Rattle.std.specs.Prelude.{◌≡◌, false, IfSome, length};
 ghost use Rattle.token.specs.Table.{bad_table};
 ghost use Rattle.order.specs.Keys.{Rising};
 ghost use Rattle.halving.specs.Within.{Within};
@@ -17,11 +17,11 @@ struct Part {
     size: usize,
 }
 
-// The index of the token that is found, and the place that the next position is sought from.
+// The index of the token that is found, and the place that the next position is sought from, in a table that is halved.
 #[derive(Clone, Copy)]
 pub struct Sought {
     pub at: Option<u32>,
-    pub place: usize,
+    pub place: Option<usize>,
 }
 
 // Where a position is looked for: among the tokens near the last place if it lies there, else among all. One comparison asks whether
@@ -67,31 +67,34 @@ fn last_within(table: &[u32], part: Part, asked: u64) -> usize
     halving::last_of_few(table, base, size, asked)
 }
 
-// Whether positions are found in the table by halving: where it is sorted and has a token.
-pub fn can_halve(table: &[u32]) -> bool
-    ensures { result ≡ true → Halvable table.now 0 }
+// Where halving begins, in a table that is sorted and has a token: another is not halved.
+pub fn first_place(table: &[u32]) -> Option<usize>
+    ensures { IfSome result (Halvable table.now) }
 {
     if token::places_in(table.len()) == 0 {
-        return false;
+        return None;
     }
-    order::is_sorted(table)
+    if order::is_sorted(table) {
+        return Some(0);
+    }
+    None
 }
 
-// The token at a position: by halving, or by looking at all of them.
-pub fn seek(table: &[u32], halves: bool, place: usize, line: u32, col: u32) -> Sought
-    requires { (bad_table (length table.now) ≡ false) × (halves ≡ true → Halvable table.now place) }
-    ensures { Seeks table.now halves line col result }
+// The token at a position: by halving, from a place, or by looking at all of them.
+pub fn seek(table: &[u32], place: Option<usize>, line: u32, col: u32) -> Sought
+    requires { (bad_table (length table.now) ≡ false) × IfSome place (Halvable table.now) }
+    ensures { Seeks table.now line col result }
 {
-    if halves {
-        let asked = order::key_of(line, col);
-        let last = last_within(table, part_from(table, place, asked), asked);
+    let Some(from) = place else {
         return Sought {
-            at: halving::best_at(table, last, line, col),
-            place: last,
+            at: lookup::look_in(table, line, col),
+            place: None,
         };
-    }
+    };
+    let asked = order::key_of(line, col);
+    let last = last_within(table, part_from(table, from, asked), asked);
     Sought {
-        at: lookup::look_in(table, line, col),
-        place,
+        at: halving::best_at(table, last, line, col),
+        place: Some(last),
     }
 }

@@ -77,7 +77,8 @@ pub fn can_halve(table: &[u32]) -> bool
     order::is_sorted(table)
 }
 
-// The token at a position: by halving, or by looking at all of them.
+// The token at a position: by halving, or by looking at all of them. `halves` is what `can_halve` says of the table, asked once for all
+// positions: a closure for either way would have to be handed out, which no function may.
 pub fn seek(table: &[u32], halves: bool, place: usize, line: u32, col: u32) -> Sought
     requires { (bad_table (length table.now) ≡ false) × (halves ≡ true → Halvable table.now place) }
     ensures { Seeks table.now halves line col result }

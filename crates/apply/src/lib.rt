@@ -164,11 +164,7 @@ fn apply_four(limits: Limits, s: State, g: Segment) -> Result<(Token, State), Re
 
 // Five fields: a source and a name.
 #[tactic(auto, unfolding(crate::specs::Apply::five))]
-fn apply_five(
-    limits: Limits,
-    s: State,
-    g: Segment,
-) -> Result<(Token, State), Refusal>
+fn apply_five(limits: Limits, s: State, g: Segment) -> Result<(Token, State), Refusal>
     requires { Small g }
     ensures { result ≡ five limits.mode limits.sources limits.names s g }
 {
@@ -179,11 +175,7 @@ fn apply_five(
 
 // 2. The field count.
 #[tactic(auto, unfolding(crate::specs::Apply::counted))]
-fn apply_count(
-    limits: Limits,
-    s: State,
-    g: Segment,
-) -> Result<(Token, State), Refusal>
+fn apply_count(limits: Limits, s: State, g: Segment) -> Result<(Token, State), Refusal>
     requires { Small g }
     ensures { result ≡ counted limits.mode limits.sources limits.names s g }
 {
@@ -201,11 +193,7 @@ fn apply_count(
 
 // A segment whose values are all read: none of the first five is too wide, then steps 1 to 5.
 #[tactic(auto, unfolding(crate::specs::Apply::applied))]
-pub fn apply_segment(
-    limits: Limits,
-    s: State,
-    g: Segment,
-) -> Result<(Token, State), Refusal>
+pub fn apply_segment(limits: Limits, s: State, g: Segment) -> Result<(Token, State), Refusal>
     requires { Small g }
     ensures { result ≡ applied limits.mode limits.sources limits.names s g }
 {

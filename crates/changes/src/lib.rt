@@ -80,7 +80,7 @@ fn put_three(out: &mut [u32], at: usize, kind: u32, left: u32, right: u32) -> us
     at + 3
 }
 
-// The entry of a kind, of these two tokens; answers the place behind it.
+// The entry of a kind, of these two tokens; answers the place behind it. The list goes to C: it holds the kinds as numbers.
 pub fn put_entry(out: &mut [u32], at: usize, kind: Kind, i: u32, j: u32) -> usize
     requires { at + 3 ≤ length out.old }
     ensures { Put out.old at (three_of (entry_of kind i j)) result out.new }

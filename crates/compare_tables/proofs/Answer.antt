@@ -8,7 +8,6 @@ use lib.Dec.{ltb}
 use lib.ListN.{length}
 use borrow.Author.Tests.{lt-ltb, le-ltb, ltb-false}
 use Rattle.std.specs.Prelude.{Option, Some, None, Result, Ok, Err, is_none}
-use Rattle.list.specs.Memory.{onto}
 use Rattle.list.specs.Pick.{pick}
 use Rattle.code.specs.declared.Code.{Code}
 use Rattle.token.specs.Table.{bad_table, tokens_of, SameTokens}
@@ -18,8 +17,8 @@ use Rattle.order.proofs.Falls.{sorted_says}
 use Rattle.changes.specs.Changes.{Entry, changes, listed}
 use Rattle.changes.proofs.Empty as empty
 use Rattle.compare_tables.specs.Compare.{unless_falls, roomed, compared, Compares, Lists, DoneLists, EmptyIsSame}
-use Rattle.compare_tables.specs.Walks.{Walks, Counts}
-use Rattle.compare_tables.proofs.Loops.{length_listed, few_tokens}
+use Rattle.compare_tables.specs.Walks.{Walks}
+use Rattle.compare_tables.proofs.Loops.{length_listed}
 
 -- the index of a token has 32 bits
 pub falls_small : (table : List ℕ) (i : ℕ) → bad_table (length table) ≡ false → Some i ≡ first_fall table → i < 4294967296
@@ -59,10 +58,6 @@ module _ (left right : List ℕ) (room : ℕ) where
 
             pub enough : 3 * entries ≤ room → Ok entries ≡ compared left right room
             enough h = sym (counted ∙ rw (le-ltb room (3 * entries) h))
-
--- the numbers of the entries fit
-pub fits : (left right : List ℕ) (entries : ℕ) → Walks left right → Counts left right entries → 3 * entries < 18446744073709551616
-fits left right entries w c = omega (arith, c.most, few_tokens left right w)
 
 -- ---- done: both tables can be walked, and there is room
 pub record Ready (left right : List ℕ) (room entries : ℕ) : Type 0 where

@@ -1,19 +1,17 @@
 -- The two walks: one counts the entries, the other puts their numbers. Assumes nothing.
 use mathlib.Core.Path.{◌≡◌, refl, sym, ◌∙◌, ap}
 use mathlib.Core.List.{List, [], ◌∷◌, ◌++◌, append_assoc, append-nil}
-use Prim.Native.Nat.{ℕ, ◌+◌, ◌*◌, ◌≤◌, ◌<◌}
+use Prim.Native.Nat.{ℕ, ◌+◌, ◌*◌, ◌≤◌}
 use native.Mathlib.Omega.{arith}
-use native.Mathlib.Nat.{zero-add}
-use lib.ListN.{length, length-append}
-use Rattle.std.specs.Prelude.{Option, Some, None, is_some}
-use Rattle.std.specs.Int.{from_bool}
+use lib.ListN.{length}
+use Rattle.std.specs.Prelude.{Option, Some}
 use Rattle.list.specs.Memory.{onto}
 use Rattle.list.specs.Put.{Put}
-use Rattle.list.proofs.Put.{Due, due_all, due_is, due_same, due_fits, due_put, due_none, put_is, put_onto}
+use Rattle.list.proofs.Put.{Due, due_all, due_is, due_fits, due_put, due_none, put_is, put_onto}
 use Rattle.token.specs.Table.{places}
 use Rattle.token.proofs.Whole.{few}
 use Rattle.changes.specs.Changes.{Entry, only_left, only_right, different, three_of, changes, listed}
-use Rattle.changes.specs.Turns.{changes_on, given, entry_of, Ahead, Turns}
+use Rattle.changes.specs.Turns.{changes_on, given, entry_of, Turns}
 use Rattle.changes.specs.declared.Kind.{Kind}
 use Rattle.changes.specs.declared.Turn.{Turn}
 use Rattle.changes.proofs.Walk.{all_done, from_start}
@@ -46,20 +44,11 @@ put_of : (o : Option Kind) (k : Kind) (i j : ℕ) → o ≡ Some k → listed (g
 unfolding listed
 put_of o k i j e = ap (λ (p : Option Kind). listed (given p i j)) e ∙ append-nil (three_of (entry_of k i j))
 
--- a turn gives one entry at the most
-one_at_most : (k : Option Kind) (i j n : ℕ) → n ≡ from_bool (is_some k) → (n ≡ length (given k i j)) × (n ≤ 1)
-one_at_most None i j n e = (e, omega (arith, e))
-one_at_most (Some k) i j n e = (e, omega (arith, e))
-
 module _ (left right : List ℕ) where
   -- within both tables
   pub record Inside (i j : ℕ) : Type 0 where
     pub in_left : i ≤ places (length left)
     pub in_right : j ≤ places (length right)
-
-  pub ahead : (i j all : ℕ) → Walks left right → Inside i j → all ≡ places (length left) + places (length right) → i + j < all → Ahead left right i j
-  ahead i j all w s e h =
-      record { left_sorted = w.left_sorted; right_sorted = w.right_sorted; in_left = s.in_left; in_right = s.in_right; more = omega (arith, e) }
 
   pub inside : (i j : ℕ) (t : Turn) → Turns left right i j t → Inside t.i t.j
   inside i j t u = record { in_left = u.in_left; in_right = u.in_right }

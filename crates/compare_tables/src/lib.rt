@@ -27,7 +27,7 @@ fn count(left: &[u32], right: &[u32]) -> usize
     entries
 }
 
-// Each of them, in order.
+// Each of them, in order. The walk that both share is `next_turn`: a closure for the rest of the loop would be longer than the loop.
 fn write(left: &[u32], right: &[u32], out: &mut [u32])
     requires { Walks left.now right.now × (length (listed (changes left.now right.now)) ≤ length out.old) }
     ensures { out.new ≡ onto (listed (changes left.now right.now)) out.old }

@@ -21,20 +21,6 @@ use Rattle.lookup.proofs.Best.{among_first}
 abbrev pub takes_of : Token → ℕ → ℕ → ℕ → Bool
 takes_of t line col least = both (eqb t.dst_line line) (both (leb t.dst_col col) (leb least t.dst_col))
 
-module _ (t : Token) (line col least : ℕ) where
-  pub other_line : (t.dst_line ≡ line → ⊥) → false ≡ takes_of t line col least
-  other_line ne = simp (ne_eqb t.dst_line line ne)
-
-  -- u is the token as it was read
-  module _ (u : Token) (is : u ≡ t) (on : t.dst_line ≡ line) where
-    pub past_it : col < u.dst_col → false ≡ takes_of t line col least
-    past_it h = simp (eq-eqb t.dst_line line on, lt-leb t.dst_col col (subst (λ (v : Token). col < v.dst_col) is h))
-
-    pub by_column : u.dst_col ≤ col → leb least u.dst_col ≡ takes_of t line col least
-    by_column h =
-        ap (λ (v : Token). leb least v.dst_col) is
-        ∙ simp (eq-eqb t.dst_line line on, le-leb t.dst_col col (subst (λ (v : Token). v.dst_col ≤ col) is h))
-
 -- the column that the next token must reach
 abbrev least_of : List ℕ → Option ℕ → ℕ
 least_of table None = 0

@@ -7,11 +7,9 @@ use Rattle.std.specs.Prelude.{Option, Some, None}
 use Prim.Native.Nat.{ℕ, ◌+◌, ◌<◌, ◌≤◌}
 use native.Mathlib.Omega.{arith}
 use native.Mathlib.Nat.{eq-or-lt_of_le}
-use lib.ListN.{length}
 use borrow.Author.Count.{below_more}
 use borrow.Author.Tests.{eq-eqb, le-leb}
-use Rattle.token.specs.Table.{places, token_at}
-use Rattle.token.proofs.Whole.{few}
+use Rattle.token.specs.Table.{token_at}
 use Rattle.order.specs.Keys.{key_of, key_at}
 use Rattle.lookup.specs.Lookup.{NotAfter, fits, best_of}
 use Rattle.lookup.specs.Parts.{Between}
@@ -43,20 +41,6 @@ module _ (table : List ℕ) (from to : ℕ) where
       }
 
   module _ (least most last i : ℕ) (s : Spanned least most last i) where
-    pub inside : i < to → Between table from to → i < places (length table)
-    inside h b = omega (arith, b.within)
-
-    -- at the end
-    pub spanned : to ≤ i → Spans table from to (record { least = least; most = most; last = last })
-    spanned h =
-        record {
-          begins = s.begins;
-          ends = omega (arith, s.ends, s.within);
-          at = s.at;
-          lowest = λ j l g. s.lowest j l (omega (arith, s.within));
-          highest = λ j l g. s.highest j l (omega (arith, s.within));
-        }
-
     -- p is where the next token stands
     module _ (h : i < to) (p : ℕ) (ep : p ≡ key_at table i) (least' : ℕ) (low : least' ≤ least) (own : least' ≤ p) where
       lower : (j : ℕ) → from ≤ j → j < i + 1 → least' ≤ key_at table j
@@ -82,19 +66,6 @@ module _ (table : List ℕ) (from to : ℕ) where
             highest = λ j l g.
                 below_more (λ (k : ℕ). from ≤ k → (key_at table k < p) ⊎ ((key_at table k ≡ p) × (k ≤ i))) i (λ k a b. higher m k b a (s.highest k b a))
                 (λ _. inr (sym ep, omega arith)) j g l;
-          }
-
-      pub leaves : p < most → Spanned least' most last (i + 1)
-      leaves m =
-          record {
-            within = omega arith;
-            begins = s.begins;
-            ends = omega (arith, s.ends);
-            at = s.at;
-            lowest = lower;
-            highest = λ j l g.
-                below_more (λ (k : ℕ). from ≤ k → (key_at table k < most) ⊎ ((key_at table k ≡ most) × (k ≤ last))) i (λ k a b. s.highest k b a)
-                (λ _. inl (omega (arith, ep))) j g l;
           }
 
 -- ---- what a position takes from it; found is what was found before

@@ -22,9 +22,6 @@ use Rattle.lookup_many.specs.Blocks.{Held}
 use Rattle.lookup_many.proofs.Tests.{done_is, opens}
 
 module _ (table positions found : List ℕ) where
-  pub refused : (c : Code) → Err c ≡ many_to table positions (length found) → LooksMany table positions found (Err c) found
-  refused c e = record { says = e; each = λ k h. absurd (omega arith); kept = refl; sized = refl }
-
   module _ (e : Ok tt ≡ many_to table positions (length found)) where
     pub ready : (bad_table (length table) ≡ false) × (pairs (length positions) ≤ length found)
     ready = opens table positions (length found) e

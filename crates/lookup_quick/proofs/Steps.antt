@@ -1,13 +1,10 @@
 -- From every token to the few that are left. Assumes nothing.
-use mathlib.Core.Path.{◌≡◌, subst}
 use mathlib.Core.List.{List}
 use Prim.Native.Nat.{ℕ, ◌<◌}
 use native.Mathlib.Omega.{arith}
 use lib.ListN.{length}
 use Rattle.token.specs.Table.{places}
-use Rattle.lookup_many.specs.Places.{Filled}
 use Rattle.halving.specs.Within.{Within}
-use Rattle.lookup_quick.specs.Each.{Leads}
 
 -- before anything is known, a position may lead to any token
 pub at_first : (table : List ℕ) (asked : ℕ) → 0 < places (length table) → Within table asked 0 (places (length table))

@@ -5,22 +5,14 @@ use mathlib.Core.List.{List}
 use Rattle.std.specs.Prelude.{Option, Some, None, is_some, is_none, not}
 use Prim.Native.Nat.{ℕ, ◌+◌, ◌*◌, ◌-◌, ◌<◌, ◌≤◌}
 use native.Mathlib.Omega.{arith}
-use native.Mathlib.Nat.{add-zero}
 use lib.Dec.{ltb}
 use lib.ListN.{length, get_or}
-use borrow.Author.Count.{below_more}
 use borrow.Author.Tests.{ltb-true, ltb-false}
 use Rattle.token.specs.Table.{width, places, token_at}
 use Rattle.order.specs.Order.{first_fall, sorted, NeverFalls, FirstFall, FallSays}
 use Rattle.order.specs.Keys.{key_at, Rise, Rising, Settles, FirstBehind, FallsBehind}
 use Rattle.order.proofs.Before.{impossible, up_to, not_before, key_up, up_key}
 use Rattle.order.proofs.Falls.{says, sorted_never}
-
-pub says_yes : {P : Type 0} → P → Settles P true
-says_yes p = record { yes = λ _. p; no = λ e. impossible e }
-
-pub says_no : {P : Type 0} → (P → ⊥) → Settles P false
-says_no n = record { yes = λ e. impossible (sym e); no = λ _. n }
 
 -- a table's numbers have 32 bits
 pub narrow : (table : List ℕ) → ((i : ℕ) → get_or table i 0 < 4294967296) → (j : ℕ) → (token_at table j).dst_col < 4294967296
@@ -32,21 +24,6 @@ module _ (table : List ℕ) where
   pub record Upward (from at k : ℕ) : Type 0 where
     pub is : k ≡ key_at table at
     pub rise : Rise table from at
-
-  pub alone : (from at k : ℕ) → at ≡ from → k ≡ key_at table from → Upward from at k
-  alone from at k q e = record { is = e ∙ ap (key_at table) (sym q); rise = λ j l g. absurd (omega (arith, q)) }
-
-  module _ (from at at' k p : ℕ) (e : at' ≡ at + 1) (u : Upward from at k) (ep : p ≡ key_at table at') where
-    one_more : key_at table at ≤ key_at table (at + 1) → Rise table from (at + 1)
-    one_more h j l g = below_more (λ (m : ℕ). from ≤ m → key_at table m ≤ key_at table (m + 1)) at (λ m a b. u.rise m b a) (λ _. h) j g l
-
-    pub next : k ≤ p → Upward from at' p
-    next h =
-        let q : key_at table at ≤ key_at table (at + 1) = rw (← e) (omega (arith, ep, u.is)) in
-        record { is = ep; rise = subst (Rise table from) (sym e) (one_more q) }
-
-    pub fell : p < k → (low to : ℕ) → low ≤ at → at < to → Rise table low to → ⊥
-    fell h low to l g r = let z : key_at table at ≤ key_at table at' = rw e (r at l g) in omega (arith, ep, u.is)
 
   -- where one falls they do not rise
   falls_so : (from to k : ℕ) → FirstBehind table from to k → (low : ℕ) → low ≤ from → Rise table low to → ⊥
@@ -70,58 +47,6 @@ module _ (table : List ℕ) where
     pub two : Upward part (part + i) b
     pub three : Upward (2 * part) (2 * part + i) c
     pub four : Upward (3 * part) (3 * part + i) d
-
-  pub begin : (part a b c d : ℕ) → a ≡ key_at table 0 → b ≡ key_at table part → c ≡ key_at table (2 * part) → d ≡ key_at table (3 * part) → Sides part 0 a b c d
-  begin part a b c d ea eb ec ed =
-      record {
-        within = omega arith;
-        one = alone 0 0 a refl ea;
-        two = alone part (part + 0) b (add-zero part) eb;
-        three = alone (2 * part) (2 * part + 0) c (add-zero (2 * part)) ec;
-        four = alone (3 * part) (3 * part + 0) d (add-zero (3 * part)) ed;
-      }
-
-  module _ (part i a b c d : ℕ) (s : Sides part i a b c d) where
-    pub all_rise : part ≤ i → Rise table 0 (4 * part)
-    all_rise h =
-        let w = s.within in
-        join 0 i part (4 * part) (omega arith) s.one.rise
-        (join part (part + i) (2 * part) (4 * part) (omega arith) s.two.rise
-        (join (2 * part) (2 * part + i) (3 * part) (4 * part) (omega arith) s.three.rise
-        (λ j l g. s.four.rise j l (omega arith))))
-
-    -- the next token of each
-    module _ (h : i < part) where
-      -- one of them falls
-      side_falls : (from k p : ℕ) → from ≤ 3 * part → Upward from (from + i) k → p ≡ key_at table (from + (i + 1)) → p < k → Rise table 0 (4 * part) → ⊥
-      side_falls from k p l u ep g r = fell from (from + i) (from + (i + 1)) k p (omega arith) u ep g 0 (4 * part) (omega arith) (omega arith) r
-
-      first_falls : (p : ℕ) → p ≡ key_at table (i + 1) → p < a → Rise table 0 (4 * part) → ⊥
-      first_falls p ep g r = fell 0 i (i + 1) a p refl s.one ep g 0 (4 * part) (omega arith) (omega arith) r
-
-      module _ (p q r t : ℕ) (ep : p ≡ key_at table (i + 1)) (eq : q ≡ key_at table (part + (i + 1))) (er : r ≡ key_at table (2 * part + (i + 1)))
-          (et : t ≡ key_at table (3 * part + (i + 1))) where
-        pub one_falls : p < a → Rise table 0 (4 * part) → ⊥
-        one_falls = first_falls p ep
-
-        pub two_falls : q < b → Rise table 0 (4 * part) → ⊥
-        two_falls = side_falls part b q (omega arith) s.two eq
-
-        pub three_falls : r < c → Rise table 0 (4 * part) → ⊥
-        three_falls = side_falls (2 * part) c r (omega arith) s.three er
-
-        pub four_falls : t < d → Rise table 0 (4 * part) → ⊥
-        four_falls = side_falls (3 * part) d t (omega arith) s.four et
-
-        pub turn : a ≤ p → b ≤ q → c ≤ r → d ≤ t → Sides part (i + 1) p q r t
-        turn ga gb gc gd =
-            record {
-              within = omega arith;
-              one = next 0 i (i + 1) a p refl s.one ep ga;
-              two = next part (part + i) (part + (i + 1)) b q (omega arith) s.two eq gb;
-              three = next (2 * part) (2 * part + i) (2 * part + (i + 1)) c r (omega arith) s.three er gc;
-              four = next (3 * part) (3 * part + i) (3 * part + (i + 1)) d t (omega arith) s.four et gd;
-            }
 
   -- what the numbers say, where columns have 32 bits
   module _ (cols : (j : ℕ) → (token_at table j).dst_col < 4294967296) where

@@ -323,14 +323,7 @@ pub fn pgk_compose_with(
         table: inner,
         names: list(inner_names, inner_ends),
     };
-    ComposedOut::from(compose::compose_with(
-        outer,
-        outer_sources,
-        inner,
-        res,
-        added,
-        work,
-    ))
+    ComposedOut::from(compose::compose_with(outer, outer_sources, inner, res, added, work))
 }
 
 pub fn pgk_name_of(

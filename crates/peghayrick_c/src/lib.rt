@@ -18,8 +18,8 @@ ghost use Rattle.compose.specs.Compose.{maps_of, Composes, ComposesWith};
 ghost use Rattle.records.specs.Records.{TranslatesRecords};
 ghost use Rattle.peghayrick.specs.Exports.{Goes, version, flag, decoded_out, encoded_out, compared_out, composed_out, name_out};
 
-use peghayrick::{ComparedOut, ComposedOut, DecodedOut, EncodedOut, NameOut};
 use code::Answer;
+use peghayrick::{ComparedOut, ComposedOut, DecodedOut, EncodedOut, NameOut};
 use token::{Token, TokenChunk};
 
 // What the header's PGK_VERSION must be.

@@ -6,7 +6,7 @@ use Prim.Native.Nat.{ℕ, zero, suc, ◌+◌, ◌≤◌, ◌<◌}
 use native.Mathlib.Numerals.{add-one}
 use native.Mathlib.Omega.{arith}
 use lib.Dec.{ltb}
-use lib.ListN.{length, get_or, set, take, drop, length-append, length-map, length-drop}
+use lib.ListN.{length, get_or, set, take, drop, length-map}
 use lib.Seq.{drop-cons, take-suc, take-length, drop-length, length-take-le, get_or_at, set_at, append_snoc}
 use borrow.Author.Tests.{lt-ltb, le-ltb}
 use Rattle.std.specs.Prelude.{Option, Some, None, Result, Ok, Err, ⊤}
@@ -65,12 +65,6 @@ module _ (line source name : ℕ) (ts : List Token) where
   pub none_big : Ok tt ≡ records_to line source name ts → first_too_big line source name 0 ts ≡ None
   unfolding records_to
   none_big e = none_if (ltb 4294967294 (length ts)) (first_too_big line source name 0 ts) e
-
-  pub done : Ok tt ≡ records_to line source name ts → (ts' : List Token) → ts' ≡ all_moved line source name ts → TranslatesRecords line source name ts (Ok tt) ts'
-  done e ts' w = record { says = e; wrote = rw (← e) w }
-
-  pub refused : (c : Code) → Err c ≡ records_to line source name ts → TranslatesRecords line source name ts (Err c) ts
-  refused c e = record { says = e; wrote = rw (← e) }
 
 -- where none is the first that is too big, none is
 module _ (line source name : ℕ) where

@@ -19,7 +19,8 @@ fn answer_for(ts: &[Token], by: Offsets) -> Result<(), Code>
     translate::look(ts.len(), |i| ts[i], by)
 }
 
-// Each record is moved where none is too big.
+// Each record is moved where none is too big. Not one loop with that of a table, which reads and stores seven numbers a token: the C
+// interface lends both forms.
 fn move_all(ts: &mut [Token], by: Offsets)
     requires { first_too_big by.line by.source by.name 0 ts.old ≡ None }
     ensures { ts.new ≡ all_moved by.line by.source by.name ts.old }

@@ -181,7 +181,9 @@ pub fn try_fast_4_or_5_segment(s: &[u8], at: usize) -> Option<Shape>
 fn moved_by(base: u32, e: u64) -> u64
     ensures { Stepped result base e }
 {
-    (base as u64).wrapping_add(e).wrapping_add(18446744073709551600)
+    (base as u64)
+        .wrapping_add(e)
+        .wrapping_add(18446744073709551600)
 }
 
 pub fn near_all(shape: Shape, st: State) -> Near

@@ -48,8 +48,11 @@ taken_at mode sources names text s = taken mode sources names s (segment_at mode
 -- the step that the short way makes; that it is the segment's own is proved
 abbrev pub short_step : State → Near → ℕ → ℕ → Step
 short_step st n k len =
-    Ok (Some (token st.dst_line n.dst_col n.src_line n.src_col n.source_id (pick (eqb k 5) n.name_id no_id) no_segment, st.at,
-    state st.dst_line n.dst_col n.src_line n.src_col n.source_id n.name_id (st.at + len)))
+    Ok (Some (
+      token st.dst_line n.dst_col n.src_line n.src_col n.source_id (pick (eqb k 5) n.name_id no_id) no_segment,
+      st.at,
+      state st.dst_line n.dst_col n.src_line n.src_col n.source_id n.name_id (st.at + len),
+    ))
 
 -- no delimiter stands at the state's place
 abbrev pub Opens : List ℕ → State → Type 0

@@ -54,11 +54,7 @@ fn step_of(
 }
 
 // The segment at the state's place, read and taken.
-fn take(
-    s: &[u8],
-    limits: Limits,
-    st: State,
-) -> Result<(Token, State), Refusal>
+fn take(s: &[u8], limits: Limits, st: State) -> Result<(Token, State), Refusal>
     ensures { result ≡ taken_at limits.mode limits.sources limits.names s.now st }
 {
     let g = segment::parse_vlq_segment(s, limits.mode, st.at)?;
@@ -85,13 +81,7 @@ fn shown_name(k: usize, name_id: u32) -> u32
     token::NONE
 }
 
-fn short_step(
-    st: State,
-    n: Near,
-    k: usize,
-    len: usize,
-    limits: Limits,
-) -> (Token, usize, State)
+fn short_step(st: State, n: Near, k: usize, len: usize, limits: Limits) -> (Token, usize, State)
     requires { Fit n k limits.sources limits.names × (st.at + len < 2 ^ 64) }
     ensures { Ok (Some result) ≡ told (short_step st n k len) }
 {

@@ -83,15 +83,7 @@ module _ (line source name : ℕ) where
     pub long : length table ≡ length before
     long = ap length f.wrote ∙ length_over (front before i) before (omega (arith, length_front before i, f.counted, f.within))
 
-    pub ended : all ≤ i → table ≡ over (all_moved line source name (tokens_of before)) before
-    ended h =
-        let e : i ≡ places (length before) = omega (arith, f.counted, f.within) in
-        f.wrote ∙ ap (λ (k : ℕ). over (front before k) before) e
-
     module _ (h : i < all) where
-      pub inside : i < places (length table)
-      inside = omega (arith, long, f.counted)
-
       module _ (t : Token) (et : t ≡ token_at table i) where
         same : t ≡ token_at before i
         same = et ∙ ap (λ (l : List ℕ). token_at l i) f.wrote ∙ token_past (front before i) before i (omega (arith, length_front before i))

@@ -1,5 +1,5 @@
 -- One token that is not too big: what holds of it, and what it is moved to. Assumes nothing.
-use Rattle.std.proofs.Common.{◌≡◌, ℕ, ◌+◌, ◌<◌, ◌≤◌, Bool, true, false, ltb, refl, arith, ltb-false, eq-eqb, ne_eqb, leb-false}
+use Rattle.std.proofs.Common.{◌≡◌, ℕ, ◌+◌, ◌≤◌, Bool, true, false, ltb, refl, arith, ltb-false}
 use Rattle.list.specs.Pick.{pick}
 use Rattle.token.specs.Table.{no_id}
 use Rattle.token.specs.declared.Token.{Token}

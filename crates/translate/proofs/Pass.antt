@@ -1,6 +1,6 @@
 -- The pass over all tokens, two at a turn: where the cover fits, none of them is too big. And what the tokens that were read say of a
 -- list of tokens. Assumes nothing.
-use Rattle.std.proofs.Common.{◌≡◌, ℕ, zero, suc, ◌+◌, ◌-◌, ◌<◌, ◌≤◌, Bool, true, false, ltb, List, [], ◌∷◌, length, get_or, sym, refl, ap, ◌∙◌, subst, arith, below_none, below_more, ltb-false, ltb-true, Some, None}
+use Rattle.std.proofs.Common.{◌≡◌, ℕ, zero, suc, ◌+◌, ◌-◌, ◌<◌, ◌≤◌, Bool, true, false, ltb, List, [], ◌∷◌, length, get_or, sym, refl, ap, ◌∙◌, subst, arith, below_more, ltb-false, ltb-true, Some, None}
 use Rattle.token.specs.Table.{token_at, tokens_from}
 use Rattle.token.specs.declared.Token.{Token}
 use Rattle.translate.specs.Translate.{too_big, first_too_big}
@@ -22,9 +22,6 @@ module _ (P : ℕ → Token → Type 0) (line source name : ℕ) where
     pub record Laid (c : Cover) (i : ℕ) : Type 0 where
       pub one : cover_fits line source name c ≡ true → (j : ℕ) → j < i → Small j
       pub two : cover_fits line source name c ≡ true → (j : ℕ) → j < i → Small (other + j)
-
-    pub begin : (c : Cover) → Laid c 0
-    begin c = record { one = λ _. below_none Small; two = λ _. below_none (λ (j : ℕ). Small (other + j)) }
 
     pub next : (c r : Cover) (i : ℕ) (t u : Token) → Laid c i → P i t → P (other + i) u → Over c t u r → Laid r (i + 1)
     next c r i t u l pt pu o =

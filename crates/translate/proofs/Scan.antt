@@ -1,6 +1,6 @@
 -- The first token that is too big, step by step, and what a table answers by it. Assumes nothing.
-use Rattle.std.proofs.Common.{◌≡◌, ℕ, ◌+◌, true, false, List, [], ◌∷◌, length, sym, refl, ap, ◌∙◌}
-use Rattle.std.specs.Prelude.{Some, None, Ok, Err}
+use Rattle.std.proofs.Common.{◌≡◌, ℕ, ◌+◌, true, false, List, [], ◌∷◌, length, refl}
+use Rattle.std.specs.Prelude.{Some, None, Err}
 use Rattle.code.specs.declared.Code.{Code}
 use Rattle.token.specs.Table.{bad_table, tokens_of}
 use Rattle.token.specs.declared.Token.{Token}
@@ -28,7 +28,3 @@ module _ (line source name : ℕ) where
       → translates_to line source name table ≡ unless_too_big (first_too_big line source name 0 (tokens_of table))
   unfolding translates_to
   is_first table e = rw e
-
-  pub is_done : (table : List ℕ) → bad_table (length table) ≡ false → first_too_big line source name 0 (tokens_of table) ≡ None
-      → Ok tt ≡ translates_to line source name table
-  is_done table e n = sym (is_first table e ∙ ap unless_too_big n)

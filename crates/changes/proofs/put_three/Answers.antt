@@ -4,11 +4,5 @@ use Rattle.changes.proofs.Entry.{put_three}
 use native.Mathlib.Omega.{arith}
 use Rattle.changes.proofs.put_three.Goals as goal
 
-pub bounds-out-at-2 : goal.bounds-out-at-2
-bounds-out-at-2 c = simp length-set (omega (arith, c.requires))
-
-pub bounds-out-at-3 : goal.bounds-out-at-3
-bounds-out-at-3 c = simp length-set (omega (arith, c.requires))
-
 pub returns : goal.returns
 returns c = put_three _ _ _ _ _ c.requires

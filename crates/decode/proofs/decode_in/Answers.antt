@@ -49,8 +49,8 @@ next_after-s-requires c =
 pub loop-t-preserved : goal.loop-t-preserved
 loop-t-preserved c = (
   moves _ _ _ _ _ _ _ _ _
-  (put _ _ _ _ _ _ _ _ c.loop-t.invariant.0 _ _ _ (told_some _ _ _ _ c.in-Ok-Some.is c.in-Ok-Some.field-0-is c.take_segment.ensures)
-  _ c.places_in-room.ensures c.if-begin-ge-LATE.false c.if-room-tokens.false _ c.put_token.ensures)
-  c.next_after-s.ensures,
+      (put _ _ _ _ _ _ _ _ c.loop-t.invariant.0 _ _ _ (told_some _ _ _ _ c.in-Ok-Some.is c.in-Ok-Some.field-0-is c.take_segment.ensures)
+      _ c.places_in-room.ensures c.if-begin-ge-LATE.false c.if-room-tokens.false _ c.put_token.ensures)
+      c.next_after-s.ensures,
   c.next_after-s.ensures.opens,
 )

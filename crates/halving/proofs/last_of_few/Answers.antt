@@ -3,12 +3,6 @@ use native.Mathlib.Omega.{arith}
 use Rattle.halving.proofs.Parts.{few_left}
 use Rattle.halving.proofs.last_of_few.Goals as goal
 
-pub counted_of-second-requires : goal.counted_of-second-requires
-counted_of-second-requires c = c.requires.1.ends
-
-pub counted_of-third-requires : goal.counted_of-third-requires
-counted_of-third-requires c = c.requires.1.ends
-
 pub overflow_add-result : goal.overflow_add-result
 overflow_add-result c = omega (arith, (few_left _ c.requires.0.0 _ _ _ c.requires.1 c.requires.0.1 _ _ c.counted_of-second.ensures c.counted_of-third.ensures).ends, c.well_formed)
 

@@ -60,7 +60,8 @@ impl Finder for Index<'_> {
     }
 }
 
-// How many names were added, and the last outer name id that was asked for, with the id that it was given.
+// How many names were added, and the last outer name id that was asked for, with the id that it was given. Before the first it is
+// NONE with the id NONE, which no name has, and not an Option: asking then costs one comparison.
 #[derive(Clone, Copy)]
 struct Known {
     count: usize,

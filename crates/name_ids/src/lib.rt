@@ -8,7 +8,7 @@ ghost use Rattle.name_ids.specs.Answers.{named_by, Searchable};
 
 use names::{Joined, Names};
 
-// The id of an outer name in the result: one that it has there, or a new one.
+// The id of an outer name in the result: one that it has there, or a new one. What has no name has the id NONE, as in a table.
 #[derive(Clone, Copy)]
 pub enum NameId {
     Found(u32),

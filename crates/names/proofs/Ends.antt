@@ -1,5 +1,5 @@
 -- The ends of a name list: testing them, and the bounds of each name. Assumes nothing.
-use mathlib.Core.Path.{◌≡◌, refl, ap, ◌∙◌}
+use mathlib.Core.Path.{◌≡◌, refl, ◌∙◌}
 use mathlib.Core.Bool.{true, false}
 use mathlib.Core.List.{List, [], ◌∷◌}
 use Prim.Native.Nat.{ℕ, zero, suc, ◌+◌, ◌-◌, ◌≤◌, ◌<◌}
@@ -13,15 +13,6 @@ use borrow.Author.Tests.{leb-true, le-leb, lt-leb}
 use Rattle.list.proofs.Pick.{both_true}
 use Rattle.list.specs.Pick.{both}
 use Rattle.names.specs.Names.{NameList, count, begin_of, rises, sound, name_at}
-
--- ---- where a name begins
-pub begin_first : (ends : List ℕ) (k : ℕ) → k ≡ 0 → 0 ≡ begin_of ends k
-begin_first ends zero e = refl
-begin_first ends (suc k) e = absurd (omega arith)
-
-pub begin_next : (ends : List ℕ) (k : ℕ) → (k ≡ 0 → ⊥) → get_or ends (k - 1) 0 ≡ begin_of ends k
-begin_next ends zero n = absurd (n refl)
-begin_next ends (suc k) n = ap (λ (j : ℕ). get_or ends j 0) (omega arith)
 
 -- ---- the test of a list, end after end
 pub record Rising (text ends : List ℕ) (from i : ℕ) : Type 0 where

@@ -59,7 +59,8 @@ impl<'a> Names<'a> {
         from <= self.text.len()
     }
 
-    // The k-th name, a part of the text.
+    // The k-th name, a part of the text. That the list is sound stays a clause and is no invariant of a type, since docs/PROMISES.md
+    // names this function and what it asks.
     pub fn name_at(self, k: usize) -> &'a [u8]
         requires { (sound (list_of self) ≡ true) × (k < length self.ends.now) }
         ensures { result.now ≡ name_at (list_of self.entry) k }

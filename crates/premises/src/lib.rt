@@ -35,7 +35,7 @@ impl Before {
     }
 }
 
-// An id is none or below its count.
+// An id is none or below its count. None is a number here: so it stands in the table, which C lends.
 fn id_within(count: u32, id: u32) -> bool
     ensures { result ≡ id_within count id }
 {

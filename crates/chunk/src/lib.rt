@@ -1,4 +1,7 @@
 // Writes one token after a state: how many bytes it takes, the bytes, and the state after it.
+//
+// An id that is none stays a number: so it stands in the table, which C lends. The sizes are no second use of what writes, since they are
+// made without a branch.
 #![tactic(auto)]
 
 ghost use Rattle.std.specs.Prelude.{◌≡◌, ◌+◌, ◌≤◌, length, replicate};

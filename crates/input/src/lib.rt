@@ -28,7 +28,7 @@ fn read_some<R: Read>(reader: &mut R, out: &mut [u8]) -> io::Result<usize>
 }
 
 // Reads until the lent bytes are full or the input ends, and gives how many bytes it put at their start. On no bytes it makes no
-// call. Where a read fails, some of the lent bytes may have been written.
+// call. How far a turn moves on is the read's to say, so it is no `for`. Where a read fails, some of the lent bytes may have been written.
 pub fn read_full<R: Read>(reader: &mut R, out: &mut [u8]) -> io::Result<usize>
     ensures bound { ReadsAtMost result out.new }
     ensures bytes { IfOk result (λ n. Consumes (R.remaining reader.old) (R.remaining reader.new) (take n out.new)) }

@@ -5,6 +5,7 @@ ghost use Rattle.std.specs.Prelude.{◌≤◌, ◌≡◌, length};
 
 use token::TokenChunk;
 
+// No `From` here and below: neither type is of this crate.
 fn chunk_in(n: &[u32]) -> TokenChunk
     requires { 8 ≤ length n.now }
 {

@@ -11,9 +11,6 @@ returns-then-bad_table c = says_no _ _ _ (refuses _ _ _ _ c.bad_table.ensures c.
 pub loop-i-init : goal.loop-i-init
 loop-i-init c = begin _ _ _ _ c.bad_table.ensures c.if-bad_table.false _ (begun_is _ c.default-p.ensures)
 
-pub token_at-t-requires : goal.token_at-t-requires
-token_at-t-requires c = omega (arith, c.places_in-i-end.ensures)
-
 pub returns-then-not-follows_ok : goal.returns-then-not-follows_ok
 returns-then-not-follows_ok c = says_no _ _ _ (stops _ _ _ _ _ c.loop-i.invariant _ c.places_in-i-end.ensures c.loop-i-test.true _ c.token_at-t.ensures _ c.follows_ok.ensures (ap not c.if-not-follows_ok.true))
 

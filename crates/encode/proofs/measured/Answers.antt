@@ -6,12 +6,6 @@ use Rattle.encode.proofs.measured.Goals as goal
 pub loop-i-init : goal.loop-i-init
 loop-i-init c = measuring _ _ (small_state _ (search rules)) c.requires
 
-pub token_at-t-requires : goal.token_at-t-requires
-token_at-t-requires c = omega (arith, c.loop-i.invariant.inside.within)
-
-pub overflow_cast-result : goal.overflow_cast-result
-overflow_cast-result c = omega arith
-
 pub returns-then-t-p : goal.returns-then-t-p
 returns-then-t-p c = measured_back _ _ _ _ _ c.loop-i.invariant _ c.token_at-t.ensures c.loop-i-test.true c.if-t-p.true
 

@@ -6,9 +6,6 @@ use Rattle.encode.proofs.write_all.Goals as goal
 pub loop-i-init : goal.loop-i-init
 loop-i-init c = writing _ _ _ c.requires
 
-pub token_at-t-requires : goal.token_at-t-requires
-token_at-t-requires c = omega (arith, c.loop-i.invariant.forward.inside.within)
-
 pub put_token-at-requires : goal.put_token-at-requires
 put_token-at-requires c = record { prev_dst_line_bound = write_line _ _ _ _ _ _ _ c.loop-i.invariant _ c.token_at-t.ensures c.loop-i-test.true; t_in_bounds = write_fits _ _ _ _ _ _ _ c.loop-i.invariant _ c.token_at-t.ensures c.loop-i-test.true }
 

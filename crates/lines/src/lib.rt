@@ -40,11 +40,7 @@ fn put_number(out: &mut [u8], at: usize, n: u64, after: u8) -> usize
     i + 1
 }
 
-<<<<<<< HEAD
-// An id, a dash where it is none (the number that C's tables hold), and the byte after it.
-=======
 // An id, a dash where it is none, which is a number in the table, and the byte after it.
->>>>>>> 7c431306bd7941ad80403b52b0f7d4dd203efd00
 fn put_id(out: &mut [u8], at: usize, id: u32, after: u8) -> usize
     requires { at + length (id_text id ++ (after ∷ [])) ≤ length out.old }
     ensures { Put out.old at (id_text id ++ (after ∷ [])) result out.new }

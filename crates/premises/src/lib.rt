@@ -35,11 +35,7 @@ impl Before {
     }
 }
 
-<<<<<<< HEAD
-// An id is none, by the number that C's tables hold, or below its count.
-=======
 // An id is none or below its count. None is a number here: so it stands in the table, which C lends.
->>>>>>> 7c431306bd7941ad80403b52b0f7d4dd203efd00
 fn id_within(count: u32, id: u32) -> bool
     ensures { result ≡ id_within count id }
 {

@@ -57,12 +57,7 @@ pub fn step_size(a: u32, b: u32) -> u64
     vlq_size(vlq_value(a, b))
 }
 
-<<<<<<< HEAD
-// Writes the digits of `num` from `at` on, and gives the place after them. How many there are is known when the number is used up; so
-// it is no `for`.
-=======
 // Writes the digits of `num` from `at` on, and gives the place after them. How many they are shows only at the last, so it is no `for`.
->>>>>>> 7c431306bd7941ad80403b52b0f7d4dd203efd00
 pub fn encode_vlq(out: &mut [u8], at: usize, num: u64) -> usize
     requires { at + length (write_of num) ≤ length out.old }
     ensures { Put out.old at (write_of num) result out.new }

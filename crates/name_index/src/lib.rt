@@ -1,7 +1,7 @@
 // The id of an outer name in a composed map, by an index that is made in lent memory once a call.
 #![tactic(auto)]
 
-ghost use Rattle.std.specs.Prelude.{◌≡◌, true, [], ℕ, ◌+◌, ◌<◌, ◌≤◌, length, get_or, set};
+ghost use Rattle.std.specs.Prelude.{◌≡◌, true, [], ◌+◌, ◌<◌, ◌≤◌, length, get_or, set};
 ghost use Rattle.names.specs.Names.{list_of, sound};
 ghost use Rattle.name_ids.specs.NameIds.{outer_named};
 ghost use Rattle.name_ids.specs.Answers.{named_by, Searchable};

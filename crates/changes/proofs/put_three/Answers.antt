@@ -1,7 +1,5 @@
 -- `changes::put_three` meets its contract, by the laws of `Entry`. Assumes nothing.
-use lib.ListN.{length-set}
 use Rattle.changes.proofs.Entry.{put_three}
-use native.Mathlib.Omega.{arith}
 use Rattle.changes.proofs.put_three.Goals as goal
 
 pub returns : goal.returns

@@ -20,14 +20,14 @@ use token::Token;
 #[derive(Clone, Copy)]
 pub struct Map<'a> {
     pub table: &'a [u32],
-    pub names: Names<'a>,
+    pub names: Names<'a, 'a>,
 }
 
 // A way to find the ids of outer names. What it holds goes by the names that are added so far.
 trait Finder {
     ghost Holds: { Self → NameList → NameList → List ℕ → Type 0 };
 
-    fn outer_name_id(&mut self, names: Joined<'_>, id: u32) -> NameId
+    fn outer_name_id(&mut self, names: Joined<'_, '_>, id: u32) -> NameId
         requires searchable { Searchable (list_of names.inner) (list_of names.outer) names.added.now }
         requires holds { Holds self.old (list_of names.inner) (list_of names.outer) names.added.now }
         ensures is { named_by names.entry.added.now id result ≡ outer_named (list_of names.entry.inner) (list_of names.entry.outer) names.entry.added.now id }
@@ -41,7 +41,7 @@ struct Search;
 impl Finder for Search {
     ghost Holds = { λ _ _ _ _. Unit };
 
-    fn outer_name_id(&mut self, names: Joined<'_>, id: u32) -> NameId {
+    fn outer_name_id(&mut self, names: Joined<'_, '_>, id: u32) -> NameId {
         name_ids::outer_name_id(names, id)
     }
 }
@@ -55,7 +55,7 @@ struct Index<'a> {
 impl Finder for Index<'_> {
     ghost Holds = { λ f inner outer ids. Indexed inner outer ids f.work.now };
 
-    fn outer_name_id(&mut self, names: Joined<'_>, id: u32) -> NameId {
+    fn outer_name_id(&mut self, names: Joined<'_, '_>, id: u32) -> NameId {
         name_index::indexed_name_id(names, self.work, id)
     }
 }
@@ -73,8 +73,8 @@ impl Known {
     // The id that an outer name is given; a new one is stored behind the others that were added. The last one is remembered.
     fn ask<F: Finder>(
         &mut self,
-        inner: Names<'_>,
-        outer: Names<'_>,
+        inner: Names<'_, '_>,
+        outer: Names<'_, '_>,
         added: &mut [u32],
         finder: &mut F,
         id: u32,
@@ -154,8 +154,8 @@ fn origin(inner: &[u32], place: &mut Option<usize>, t: Token) -> Option<Token>
 fn made_token<F: Finder>(
     t: Token,
     found: Option<Token>,
-    inner: Names<'_>,
-    outer: Names<'_>,
+    inner: Names<'_, '_>,
+    outer: Names<'_, '_>,
     added: &mut [u32],
     known: &mut Known,
     finder: &mut F,

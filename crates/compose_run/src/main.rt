@@ -23,7 +23,7 @@ fn print_rows(rt: &impl Print, numbers: &[u32]) -> io::Result<()> {
     Ok(())
 }
 
-fn print_name(rt: &impl Print, names: Joined<'_>, id: u32) -> io::Result<()> {
+fn print_name(rt: &impl Print, names: Joined<'_, '_>, id: u32) -> io::Result<()> {
     let exists = if names.name_exists(id) { "yes" } else { "no" };
     let (start, end, list) = match names.name_place(id) {
         Some(p) if p.outer => (p.start, p.end, "outer"),

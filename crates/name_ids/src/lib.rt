@@ -16,7 +16,7 @@ pub enum NameId {
 }
 
 // The first name of a list with these bytes. Each name begins where the one before it ends, and lengths are compared before bytes.
-fn first_name(names: Names<'_>, name: &[u8]) -> Option<usize>
+fn first_name(names: Names<'_, '_>, name: &[u8]) -> Option<usize>
     requires { sound (list_of names) ≡ true }
     ensures { result ≡ first_name (list_of names.entry) name.now 0 (length names.entry.ends.now) }
 {
@@ -31,7 +31,7 @@ fn first_name(names: Names<'_>, name: &[u8]) -> Option<usize>
 }
 
 // The first of the added names with these bytes.
-fn first_added(outer: Names<'_>, ids: &[u32], name: &[u8]) -> Option<usize>
+fn first_added(outer: Names<'_, '_>, ids: &[u32], name: &[u8]) -> Option<usize>
     requires { (sound (list_of outer) ≡ true) × ((j : ℕ) → j < length ids.now → get_or ids.now j 0 < length outer.ends.now) }
     ensures { result ≡ first_added (list_of outer.entry) name.now 0 ids.now }
 {
@@ -52,7 +52,7 @@ fn place_of(ids: &[u32], id: u32) -> Option<usize>
 
 // The id of an outer name: one that was added by its outer id, else searched among the inner names, then among the added ones, else
 // new.
-pub fn outer_name_id(names: Joined<'_>, id: u32) -> NameId
+pub fn outer_name_id(names: Joined<'_, '_>, id: u32) -> NameId
     requires { Searchable (list_of names.inner) (list_of names.outer) names.added.now }
     ensures { named_by names.entry.added.now id result ≡ outer_named (list_of names.entry.inner) (list_of names.entry.outer) names.entry.added.now id }
 {

@@ -46,7 +46,7 @@ fn enter(work: &mut [u32], slots: usize, slot: usize, entry: usize)
 }
 
 // The name of an entry: an inner name, from the last to the first, or an added one.
-fn entry_name<'a>(names: Joined<'a>, entry: usize) -> &'a [u8]
+fn entry_name<'a>(names: Joined<'a, '_>, entry: usize) -> &'a [u8]
     requires { Searchable (list_of names.inner) (list_of names.outer) names.added.now × (entry < length names.inner.ends.now + length names.added.now) }
     ensures { result.now ≡ entry_name (list_of names.entry.inner) (list_of names.entry.outer) names.entry.added.now entry }
 {
@@ -58,7 +58,7 @@ fn entry_name<'a>(names: Joined<'a>, entry: usize) -> &'a [u8]
 }
 
 // The latest entry with these bytes: along the entries of the name's slot.
-fn latest_same(names: Joined<'_>, work: &[u32], slot: usize, name: &[u8]) -> Option<usize>
+fn latest_same(names: Joined<'_, '_>, work: &[u32], slot: usize, name: &[u8]) -> Option<usize>
     requires { (Searchable (list_of names.inner) (list_of names.outer) names.added.now × Indexed (list_of names.inner) (list_of names.outer) names.added.now work.now) × ((slot < length names.inner.ends.now + length names.outer.ends.now) × (slot ≡ slot_of (length names.inner.ends.now + length names.outer.ends.now) name.now)) }
     ensures { result ≡ held (latest_same (entry_name (list_of names.entry.inner) (list_of names.entry.outer) names.entry.added.now) name.now (length names.entry.inner.ends.now + length names.entry.added.now)) }
 {
@@ -83,7 +83,7 @@ pub fn places_for(inner: usize, outer: usize) -> usize
 }
 
 // Makes the index of the inner names; no name is added yet.
-pub fn index_names(inner: Names<'_>, outer: Names<'_>, work: &mut [u32])
+pub fn index_names(inner: Names<'_, '_>, outer: Names<'_, '_>, work: &mut [u32])
     requires { ((sound (list_of inner) ≡ true) × (sound (list_of outer) ≡ true)) × (length inner.ends.now + length outer.ends.now + (length inner.ends.now + length outer.ends.now) + length outer.ends.now ≤ length work.old) }
     ensures { Indexed (list_of inner.entry) (list_of outer.entry) [] work.new }
 {
@@ -97,7 +97,7 @@ pub fn index_names(inner: Names<'_>, outer: Names<'_>, work: &mut [u32])
 }
 
 // The id of an outer name: remembered, or found by the index, else new, and then entered.
-pub fn indexed_name_id(names: Joined<'_>, work: &mut [u32], id: u32) -> NameId
+pub fn indexed_name_id(names: Joined<'_, '_>, work: &mut [u32], id: u32) -> NameId
     requires { Searchable (list_of names.inner) (list_of names.outer) names.added.now × Indexed (list_of names.inner) (list_of names.outer) names.added.now work.old }
     ensures is { named_by names.entry.added.now id result ≡ outer_named (list_of names.entry.inner) (list_of names.entry.outer) names.entry.added.now id }
     ensures index { Indexed (list_of names.entry.inner) (list_of names.entry.outer) (outer_named (list_of names.entry.inner) (list_of names.entry.outer) names.entry.added.now id).added work.new }

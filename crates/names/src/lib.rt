@@ -7,19 +7,19 @@ ghost use Rattle.names.specs.Names.{list_of, begin_of, sound, name_at, exists, p
 // The most names that a list may have.
 pub const MOST: usize = 2147483647;
 
-// A text, and where each name ends in it.
+// A text, and where each name ends in it. A name is a part of the text, and outlives the ends.
 #[derive(Clone, Copy)]
-pub struct Names<'a> {
-    pub text: &'a [u8],
-    pub ends: &'a [usize],
+pub struct Names<'t, 'e> {
+    pub text: &'t [u8],
+    pub ends: &'e [usize],
 }
 
 // The names of a composed map: those of its inner map, and the outer ones that composing added, by their outer ids.
 #[derive(Clone, Copy)]
-pub struct Joined<'a> {
-    pub inner: Names<'a>,
-    pub outer: Names<'a>,
-    pub added: &'a [u32],
+pub struct Joined<'t, 'e> {
+    pub inner: Names<'t, 'e>,
+    pub outer: Names<'t, 'e>,
+    pub added: &'e [u32],
 }
 
 // Where a name stands: in the outer text or the inner one, and from where to where.
@@ -30,7 +30,7 @@ pub struct NamePlace {
     pub end: usize,
 }
 
-impl<'a> Names<'a> {
+impl<'t, 'e> Names<'t, 'e> {
     // Where the k-th name begins.
     fn begin_of(self, k: usize) -> usize
         requires { k ≤ length self.ends.now }
@@ -61,7 +61,7 @@ impl<'a> Names<'a> {
 
     // The k-th name, a part of the text. That the list is sound stays a clause and is no invariant of a type, since docs/PROMISES.md
     // names this function and what it asks.
-    pub fn name_at(self, k: usize) -> &'a [u8]
+    pub fn name_at(self, k: usize) -> &'t [u8]
         requires { (sound (list_of self) ≡ true) × (k < length self.ends.now) }
         ensures { result.now ≡ name_at (list_of self.entry) k }
     {
@@ -81,7 +81,7 @@ impl<'a> Names<'a> {
     }
 }
 
-impl<'a> Joined<'a> {
+impl<'t, 'e> Joined<'t, 'e> {
     // Whether a result id has a name: an inner one, or an outer one that was added.
     pub fn name_exists(self, id: u32) -> bool
         ensures { result ≡ exists (list_of self.entry.inner) (list_of self.entry.outer) self.entry.added.now id }
@@ -101,7 +101,7 @@ impl<'a> Joined<'a> {
     }
 
     // The name of a result id, a part of one of the two texts; empty where the id has none.
-    pub fn name_of(self, id: u32) -> &'a [u8]
+    pub fn name_of(self, id: u32) -> &'t [u8]
         ensures { result.now ≡ name_of (list_of self.entry.inner) (list_of self.entry.outer) self.entry.added.now id }
     {
         if !self.name_exists(id) {

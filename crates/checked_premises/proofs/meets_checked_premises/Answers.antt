@@ -1,5 +1,4 @@
 -- `checked_premises::meets_checked_premises` meets its contract. The invariant: what is left of the table decides the whole. Assumes nothing.
-use native.Mathlib.Omega.{arith}
 use Rattle.checked_premises.proofs.Laws.{says_no, says_yes, refuses, begun_is, begin, ends, stops, stops_far, goes_on}
 use mathlib.Core.Path.{ap}
 use mathlib.Core.Bool.{not}

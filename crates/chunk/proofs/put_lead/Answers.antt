@@ -1,6 +1,5 @@
 use Rattle.list.proofs.Put.{put_long}
 use lib.ListN.{length-set}
-use native.Mathlib.Omega.{arith}
 use Rattle.chunk.proofs.Lead.{put_none, comma_fits, put_comma, semi_fits, semis_fit, put_one, put_more}
 use Rattle.chunk.proofs.put_lead.Goals as goal
 

@@ -1,4 +1,4 @@
-use Rattle.std.proofs.Common.{arith, rules}
+use Rattle.std.proofs.Common.{rules}
 use Rattle.chunk.proofs.State.{small_token, small_state}
 use Rattle.encode.proofs.Passing.{passing, passed, goes_back, passes}
 use Rattle.encode.proofs.lines.Goals as goal

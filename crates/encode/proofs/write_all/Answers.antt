@@ -1,4 +1,3 @@
-use native.Mathlib.Omega.{arith}
 use mathlib.Core.Path.{refl}
 use Rattle.encode.proofs.Write.{writing, written_long, written_all, write_line, write_fits, write_next}
 use Rattle.encode.proofs.write_all.Goals as goal

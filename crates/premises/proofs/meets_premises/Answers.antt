@@ -1,5 +1,4 @@
 -- `premises::meets_premises` meets its contract. The invariant: what is left of the table decides the whole. Assumes nothing.
-use native.Mathlib.Omega.{arith}
 use Rattle.premises.proofs.Laws.{says_no, says_yes, refuses, begin, ends, stops, goes_on}
 use mathlib.Core.Path.{ap}
 use mathlib.Core.Bool.{not}

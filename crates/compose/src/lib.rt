@@ -12,6 +12,7 @@ ghost use Rattle.compose.specs.Compose.{composed_from, composed, Composes, Compo
 ghost use Rattle.compose.specs.Steps.{unmapped_by, mapped_by, made_by, refusal_of, Leads, Askable, Lists, Ready, Written};
 
 use code::Code;
+use lookup::Position;
 use name_ids::NameId;
 use names::{Joined, Names};
 use token::Token;
@@ -141,7 +142,11 @@ fn origin(inner: &[u32], place: &mut Option<usize>, t: Token) -> Option<Token>
     if t.source_id == token::NONE {
         return None;
     }
-    let s = seek::seek(inner, *place, t.src_line, t.src_col);
+    let p = Position {
+        line: t.src_line,
+        col: t.src_col,
+    };
+    let s = seek::seek(inner, *place, p);
     *place = s.place;
     let o = token::token_at(inner, s.at? as usize);
     if o.source_id == token::NONE {

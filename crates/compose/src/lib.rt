@@ -134,7 +134,8 @@ fn mapped_to(t: Token, o: Token) -> Token
 }
 
 // The inner token that an outer one leads to, if it has a source. It is sought from `place`, which then is where the
-// next one is. An id is none by the number that C's tables hold, and is no Option.
+// next one is. An id is none by the number that C's tables hold, and is no Option. That the inner table is one stays a
+// clause: see lookup::look_in.
 fn origin(inner: &[u32], place: &mut Option<usize>, t: Token) -> Option<Token>
     requires { (bad_table (length inner.now) ≡ false) × IfSome place.old (Halvable inner.now) }
     ensures { Leads inner.now t result place.new }

@@ -57,7 +57,7 @@ pub fn last_of_few(table: &[u32], base: usize, size: usize, asked: u64) -> usize
     base + second + third
 }
 
-// The token at a position that leads to the one at `last`.
+// The token at a position that leads to the one at `last`. That the table is one stays a clause, here and below: see lookup::look_in.
 pub fn best_at(table: &[u32], last: usize, p: Position) -> Option<u32>
     requires { ((bad_table (length table.now) ≡ false) × Rising table.now) × Within table.now (key_of p.line p.col) last 1 }
     ensures { result ≡ lookup_of table.now p.line p.col }

@@ -158,7 +158,8 @@ pub fn code_for(table: &[u32], positions: &[u32], room: usize) -> Result<(), Cod
     Ok(())
 }
 
-// All blocks, one after another. The step is a block and no index that is counted: with `step_by` the last one would end past the table.
+// All blocks, one after another. The step is a block and no index that is counted: with `step_by` the last one would end past the table. That
+// the table is one stays a clause: see lookup::look_in.
 pub fn look_all(table: &[u32], positions: &[u32], found: &mut [u32])
     requires { (bad_table (length table.now) ≡ false) × (pairs (length positions.now) ≤ length found.old) }
     ensures { Held table.now positions.now (places (length table.now)) found.old found.new }

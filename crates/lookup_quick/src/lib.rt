@@ -22,6 +22,7 @@ fn anywhere(table: &[u32], positions: &[u32], found: &mut [u32])
     found[..positions.len() / 2].fill(0);
 }
 
+// That the table is one stays a clause, here and below: see lookup::look_in.
 // Each position goes on to a quarter of the tokens that it may be among. One position after another, each from a place of its own: the
 // next need not wait for it.
 fn quarter_each(table: &[u32], size: usize, positions: &[u32], found: &mut [u32])

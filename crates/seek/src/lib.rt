@@ -82,7 +82,8 @@ pub fn first_place(table: &[u32]) -> Option<usize>
     None
 }
 
-// The token at a position: by halving, from a place, or by looking at all of them.
+// The token at a position: by halving, from a place, or by looking at all of them. That the table is one stays a clause: see
+// lookup::look_in.
 pub fn seek(table: &[u32], place: Option<usize>, p: Position) -> Sought
     requires { (bad_table (length table.now) ≡ false) × IfSome place (Halvable table.now) }
     ensures { Seeks table.now p.line p.col result }

@@ -3,10 +3,10 @@
 
 ghost use Rattle.std.specs.Prelude.{◌≡◌, ◌+◌, ◌<◌, ◌≤◌, length, get_or};
 ghost use Rattle.digits.specs.Digits.{class_of, char_of, is_delim};
-ghost use Rattle.digits.specs.Tables.{word, writing};
+ghost use Rattle.digits.specs.Tables.{word};
 
-// The characters of the digits 0 to 63.
-pub const B64_CHARS: [u8; 64] =
+// The characters of the digits 0 to 63. A constant array would be made anew at each use, and a static is not.
+pub static B64_CHARS: [u8; 64] =
     *b"ABCDEFGHIJKLMNOPQRSTUVWXYZabcdefghijklmnopqrstuvwxyz0123456789+/";
 
 // `,` or `;`: of the 256 numbers 17 b + 21, modulo 256, theirs are 1 and 0. One comparison, so that nothing branches on which it is.
@@ -39,11 +39,10 @@ pub fn four_of(s: &[u8], at: usize) -> u32
     u32::from_le_bytes([s[at], s[at + 1], s[at + 2], s[at + 3]])
 }
 
-// A constant array is made anew at each use: an entry binds it once and lends it down.
-pub fn char_in(w: &[u8; 64], d: u64) -> u8
-    requires w_value { w.now ≡ writing }
-    requires d_bound { d < 64 }
+// The character of a digit.
+pub fn digit_char(d: u64) -> u8
+    requires { d < 64 }
     ensures { result ≡ char_of d }
 {
-    w[d as usize]
+    B64_CHARS[d as usize]
 }

@@ -13,18 +13,8 @@ ghost use Rattle.vlq_write.specs.Near.{Off};
 ghost use Rattle.vlq_write.specs.Size.{Reaches, StepSize};
 ghost use Rattle.vlq_write.specs.Write.{vlq_value, write_of};
 
-// The characters of the digits. A constant array is made anew at each use, and a static is not.
-static B64_CHARS: [u8; 64] = digits::B64_CHARS;
-
 // The characters of the steps from -15 to 15, which take one digit.
 pub static B64_NEAR: [u8; 31] = *b"fdbZXVTRPNLJHFDACEGIKMOQSUWYace";
-
-fn digit_char(d: u64) -> u8
-    requires { d < 64 }
-    ensures { result ≡ char_of d }
-{
-    digits::char_in(&B64_CHARS, d)
-}
 
 // The step from `b` to `a`. Which way it goes is as good as random, so size and sign are data and no branch.
 pub fn vlq_value(a: u32, b: u32) -> u64
@@ -65,11 +55,11 @@ pub fn encode_vlq(out: &mut [u8], at: usize, num: u64) -> usize
     let mut n = num;
     let mut i = at;
     while 32 <= n {
-        out[i] = digit_char(n % 32 + 32);
+        out[i] = digits::digit_char(n % 32 + 32);
         n /= 32;
         i += 1;
     }
-    out[i] = digit_char(n);
+    out[i] = digits::digit_char(n);
     i + 1
 }
 
@@ -84,7 +74,7 @@ fn goes_on(n: u64) -> u64
 fn low_char(n: u64) -> u8
     ensures { result ≡ low_char n }
 {
-    digit_char(n % 32 + goes_on(n))
+    digits::digit_char(n % 32 + goes_on(n))
 }
 
 // The character `c` where the value has such a digit, else the byte that stands there.
@@ -104,11 +94,11 @@ fn put_few(out: &mut [u8], at: usize, num: u64) -> usize
     let n1 = num / 32;
     let n2 = n1 / 32;
     let n3 = n2 / 32;
-    out[at] = digit_char(num % 32 + 32);
+    out[at] = digits::digit_char(num % 32 + 32);
     out[at + 1] = low_char(n1);
     let c2 = low_char(n2);
     out[at + 2] = kept(n2, c2, out[at + 2]);
-    let c3 = digit_char(n3 % 32);
+    let c3 = digits::digit_char(n3 % 32);
     out[at + 3] = kept(n3, c3, out[at + 3]);
     at + 2 + over(n1, 32) as usize + over(n2, 32) as usize
 }

@@ -167,7 +167,7 @@ impl From<Option<NamePlace>> for NameOut {
 }
 
 // The two slices of a list, as they come in.
-fn list<'a>(text: &'a [u8], ends: &'a [usize]) -> Names<'a>
+fn list<'a>(text: &'a [u8], ends: &'a [usize]) -> Names<'a, 'a>
     ensures { list_of result ≡ name_list text.now ends.now }
 {
     Names { text, ends }

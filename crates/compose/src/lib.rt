@@ -12,6 +12,7 @@ ghost use Rattle.compose.specs.Compose.{composed_from, composed, Composes, Compo
 ghost use Rattle.compose.specs.Steps.{unmapped_by, mapped_by, made_by, refusal_of, Leads, Askable, Lists, Ready, Written};
 
 use code::Code;
+use lookup::Position;
 use name_ids::NameId;
 use names::{Joined, Names};
 use token::Token;
@@ -133,7 +134,8 @@ fn mapped_to(t: Token, o: Token) -> Token
 }
 
 // The inner token that an outer one leads to, if it has a source. It is sought from `place`, which then is where the
-// next one is. An id is none by the number that C's tables hold, and is no Option.
+// next one is. An id is none by the number that C's tables hold, and is no Option. That the inner table is one stays a
+// clause: see lookup::look_in.
 fn origin(inner: &[u32], place: &mut Option<usize>, t: Token) -> Option<Token>
     requires { (bad_table (length inner.now) ≡ false) × IfSome place.old (Halvable inner.now) }
     ensures { Leads inner.now t result place.new }
@@ -141,7 +143,11 @@ fn origin(inner: &[u32], place: &mut Option<usize>, t: Token) -> Option<Token>
     if t.source_id == token::NONE {
         return None;
     }
-    let s = seek::seek(inner, *place, t.src_line, t.src_col);
+    let p = Position {
+        line: t.src_line,
+        col: t.src_col,
+    };
+    let s = seek::seek(inner, *place, p);
     *place = s.place;
     let o = token::token_at(inner, s.at? as usize);
     if o.source_id == token::NONE {

@@ -8,6 +8,7 @@ ghost use Rattle.order.specs.Keys.{key_of, key_at, Rising};
 ghost use Rattle.lookup.specs.Lookup.{lookup_of};
 ghost use Rattle.halving.specs.Within.{count_of, Within};
 
+use lookup::Position;
 use token::WIDTH;
 
 // 1 where the token whose numbers begin at `at` is at or before the position, else 0. What is counted is no branch: whether a token is
@@ -56,26 +57,26 @@ pub fn last_of_few(table: &[u32], base: usize, size: usize, asked: u64) -> usize
     base + second + third
 }
 
-// The token at a position that leads to the one at `last`.
-pub fn best_at(table: &[u32], last: usize, line: u32, col: u32) -> Option<u32>
-    requires { ((bad_table (length table.now) ≡ false) × Rising table.now) × Within table.now (key_of line col) last 1 }
-    ensures { result ≡ lookup_of table.now line col }
+// The token at a position that leads to the one at `last`. That the table is one stays a clause, here and below: see lookup::look_in.
+pub fn best_at(table: &[u32], last: usize, p: Position) -> Option<u32>
+    requires { ((bad_table (length table.now) ≡ false) × Rising table.now) × Within table.now (key_of p.line p.col) last 1 }
+    ensures { result ≡ lookup_of table.now p.line p.col }
 {
     let t = token::token_at(table, last);
-    if t.dst_line != line {
+    if t.dst_line != p.line {
         return None;
     }
-    if col < t.dst_col {
+    if p.col < t.dst_col {
         return None;
     }
     Some(last as u32)
 }
 
 // The same where three tokens at the most are left.
-pub fn best_of_few(table: &[u32], base: usize, size: usize, line: u32, col: u32) -> Option<u32>
-    requires { ((bad_table (length table.now) ≡ false) × (Rising table.now × (size ≤ 3))) × Within table.now (key_of line col) base size }
-    ensures { result ≡ lookup_of table.now line col }
+pub fn best_of_few(table: &[u32], base: usize, size: usize, p: Position) -> Option<u32>
+    requires { ((bad_table (length table.now) ≡ false) × (Rising table.now × (size ≤ 3))) × Within table.now (key_of p.line p.col) base size }
+    ensures { result ≡ lookup_of table.now p.line p.col }
 {
-    let last = last_of_few(table, base, size, order::key_of(line, col));
-    best_at(table, last, line, col)
+    let last = last_of_few(table, base, size, order::key_of(p.line, p.col));
+    best_at(table, last, p)
 }

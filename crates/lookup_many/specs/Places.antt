@@ -3,11 +3,11 @@
 use Rattle.std.specs.Prelude.{◌≡◌, List, ℕ, ◌<◌, length, drop, get_or, eqb, Option, Some, None, Ok}
 use Rattle.list.specs.Pick.{pick}
 use Rattle.lookup.specs.Lookup.{found_out}
-use Rattle.lookup_many.specs.declared.Pair.{Pair}
+use Rattle.lookup.specs.declared.Position.{Position}
 use Rattle.lookup_many.specs.Many.{line_of, col_of}
 
 -- the k-th pair, as it is read
-abbrev pub pair_at : List ℕ → ℕ → Pair
+abbrev pub pair_at : List ℕ → ℕ → Position
 pair_at positions k = record { line = line_of positions k; col = col_of positions k }
 
 -- what is found as one number, and back

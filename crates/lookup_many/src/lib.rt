@@ -10,17 +10,11 @@ ghost use Rattle.lookup_many.specs.Blocks.{Spans, Held};
 ghost use Rattle.lookup_many.specs.Places.{pair_at, found_in, place_of, Filled};
 
 use code::Code;
+use lookup::Position;
 use token::NONE;
 
 // So many tokens are looked at together.
 const BLOCK: usize = 64;
-
-// A position that is asked for.
-#[derive(Clone, Copy)]
-pub struct Pair {
-    pub line: u32,
-    pub col: u32,
-}
 
 // Of tokens that are looked at together: the least and the greatest of their positions, and the latest token at the greatest.
 #[derive(Clone, Copy)]
@@ -31,11 +25,11 @@ struct Block {
 }
 
 // The k-th of the list.
-pub fn pair_at(positions: &[u32], k: usize) -> Pair
+pub fn pair_at(positions: &[u32], k: usize) -> Position
     requires { k < pairs (length positions.now) }
     ensures { result ≡ pair_at positions.now k }
 {
-    Pair {
+    Position {
         line: positions[2 * k],
         col: positions[2 * k + 1],
     }
@@ -71,7 +65,7 @@ fn past_block(
     from: usize,
     to: usize,
     b: Block,
-    p: Pair,
+    p: Position,
     found: Option<u32>,
 ) -> Option<u32>
     requires { Between table.now from to × (Spans table.now from to b × (found ≡ best_of table.now p.line p.col from)) }
@@ -85,7 +79,7 @@ fn past_block(
         return found;
     }
     if asked < b.most {
-        return lookup::best_in(table, from, to, p.line, p.col, found);
+        return lookup::best_in(table, from, to, p, found);
     }
     if let Some(i) = found {
         if b.most < order::key_at(table, i as usize) {
@@ -113,7 +107,7 @@ pub fn place_of(found: Option<u32>) -> u32
 }
 
 // The place of each pair holds what `f` makes of the pair and of what the place held.
-pub fn each_place<F: Fn(Pair, u32) -> u32>(positions: &[u32], found: &mut [u32], f: F)
+pub fn each_place<F: Fn(Position, u32) -> u32>(positions: &[u32], found: &mut [u32], f: F)
     requires fits { pairs (length positions.now) ≤ length found.old }
     requires can { (k : ℕ) → k < pairs (length positions.now) → F.pre f (pair_at positions.now k) (get_or found.old k 0) }
     ensures { Filled (λ k n. F.post f (pair_at positions.now k) (get_or found.old k 0) n) (pairs (length positions.now)) found.old found.new }
@@ -132,7 +126,7 @@ fn look_block(table: &[u32], from: usize, to: usize, positions: &[u32], found: &
     each_place(
         positions,
         found,
-        |p: Pair, place: u32| -> u32
+        |p: Position, place: u32| -> u32
             requires { Between table.now from to × (Spans table.now from to b × (found_in place ≡ best_of table.now p.line p.col from)) }
             ensures { result ≡ place_of (best_of table.entry.now p.line p.col to) }
         { place_of(past_block(table, from, to, b, p, found_in(place))) },
@@ -164,7 +158,8 @@ pub fn code_for(table: &[u32], positions: &[u32], room: usize) -> Result<(), Cod
     Ok(())
 }
 
-// All blocks, one after another. The step is a block and no index that is counted: with `step_by` the last one would end past the table.
+// All blocks, one after another. The step is a block and no index that is counted: with `step_by` the last one would end past the table. That
+// the table is one stays a clause: see lookup::look_in.
 pub fn look_all(table: &[u32], positions: &[u32], found: &mut [u32])
     requires { (bad_table (length table.now) ≡ false) × (pairs (length positions.now) ≤ length found.old) }
     ensures { Held table.now positions.now (places (length table.now)) found.old found.new }

@@ -12,7 +12,7 @@ ghost use Rattle.halving.specs.Within.{Within};
 ghost use Rattle.lookup_quick.specs.Each.{Each};
 
 use code::Code;
-use lookup_many::Pair;
+use lookup::Position;
 
 // Each position may be anywhere in the table.
 fn anywhere(table: &[u32], positions: &[u32], found: &mut [u32])
@@ -22,6 +22,7 @@ fn anywhere(table: &[u32], positions: &[u32], found: &mut [u32])
     found[..positions.len() / 2].fill(0);
 }
 
+// That the table is one stays a clause, here and below: see lookup::look_in.
 // Each position goes on to a quarter of the tokens that it may be among. One position after another, each from a place of its own: the
 // next need not wait for it.
 fn quarter_each(table: &[u32], size: usize, positions: &[u32], found: &mut [u32])
@@ -31,7 +32,7 @@ fn quarter_each(table: &[u32], size: usize, positions: &[u32], found: &mut [u32]
     lookup_many::each_place(
         positions,
         found,
-        |p: Pair, base: u32| -> u32
+        |p: Position, base: u32| -> u32
             requires { (bad_table (length table.now) ≡ false) × ((Rising table.now × (4 ≤ size)) × Within table.now (key_of p.line p.col) base size) }
             ensures { Within table.entry.now (key_of p.line p.col) result (size - 3 * (size / 4)) }
         { halving::quartered(table, base as usize, size, order::key_of(p.line, p.col)) as u32 },
@@ -46,10 +47,10 @@ fn find_each(table: &[u32], size: usize, positions: &[u32], found: &mut [u32])
     lookup_many::each_place(
         positions,
         found,
-        |p: Pair, base: u32| -> u32
+        |p: Position, base: u32| -> u32
             requires { ((bad_table (length table.now) ≡ false) × (Rising table.now × (size ≤ 3))) × Within table.now (key_of p.line p.col) base size }
             ensures { result ≡ place_of (lookup_of table.entry.now p.line p.col) }
-        { lookup_many::place_of(halving::best_of_few(table, base as usize, size, p.line, p.col)) },
+        { lookup_many::place_of(halving::best_of_few(table, base as usize, size, p)) },
     );
 }
 

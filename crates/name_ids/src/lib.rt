@@ -16,6 +16,7 @@ pub enum NameId {
 }
 
 // The first name of a list with these bytes. Each name begins where the one before it ends, and lengths are compared before bytes.
+// That the names are sound stays a clause, here and below: see name_at of names.
 fn first_name(names: Names<'_, '_>, name: &[u8]) -> Option<usize>
     requires { sound (list_of names) ≡ true }
     ensures { result ≡ first_name (list_of names.entry) name.now 0 (length names.entry.ends.now) }

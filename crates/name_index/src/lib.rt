@@ -82,7 +82,7 @@ pub fn places_for(inner: usize, outer: usize) -> usize
     2 * (inner + outer) + outer
 }
 
-// Makes the index of the inner names; no name is added yet.
+// Makes the index of the inner names; no name is added yet. That both lists are sound stays a clause: see name_at of names.
 pub fn index_names(inner: Names<'_, '_>, outer: Names<'_, '_>, work: &mut [u32])
     requires { ((sound (list_of inner) ≡ true) × (sound (list_of outer) ≡ true)) × (length inner.ends.now + length outer.ends.now + (length inner.ends.now + length outer.ends.now) + length outer.ends.now ≤ length work.old) }
     ensures { Indexed (list_of inner.entry) (list_of outer.entry) [] work.new }

@@ -7,6 +7,8 @@ ghost use Rattle.order.specs.Keys.{Rising};
 ghost use Rattle.halving.specs.Within.{Within};
 ghost use Rattle.seek.specs.Seek.{Halvable, Seeks};
 
+use lookup::Position;
+
 // How many tokens from the last place on are near.
 const NEAR: usize = 16;
 
@@ -80,21 +82,22 @@ pub fn first_place(table: &[u32]) -> Option<usize>
     None
 }
 
-// The token at a position: by halving, from a place, or by looking at all of them.
-pub fn seek(table: &[u32], place: Option<usize>, line: u32, col: u32) -> Sought
+// The token at a position: by halving, from a place, or by looking at all of them. That the table is one stays a clause: see
+// lookup::look_in.
+pub fn seek(table: &[u32], place: Option<usize>, p: Position) -> Sought
     requires { (bad_table (length table.now) ≡ false) × IfSome place (Halvable table.now) }
-    ensures { Seeks table.now line col result }
+    ensures { Seeks table.now p.line p.col result }
 {
     let Some(from) = place else {
         return Sought {
-            at: lookup::look_in(table, line, col),
+            at: lookup::look_in(table, p),
             place: None,
         };
     };
-    let asked = order::key_of(line, col);
+    let asked = order::key_of(p.line, p.col);
     let last = last_within(table, part_from(table, from, asked), asked);
     Sought {
-        at: halving::best_at(table, last, line, col),
+        at: halving::best_at(table, last, p),
         place: Some(last),
     }
 }

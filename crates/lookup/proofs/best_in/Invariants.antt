@@ -3,4 +3,4 @@ use Rattle.lookup.proofs.Scan.{Scanned}
 use Rattle.lookup.proofs.best_in.Given as goal
 
 abbrev pub invariant-loop-i : goal.invariant-loop-i
-invariant-loop-i l = Scanned l.table l.line l.col l.best l.least l.i
+invariant-loop-i l = Scanned l.table l.p.line l.p.col l.best l.least l.i

@@ -22,9 +22,8 @@ fn anywhere(table: &[u32], positions: &[u32], found: &mut [u32])
     found[..positions.len() / 2].fill(0);
 }
 
-// That the table is one stays a clause, here and below: see lookup::look_in.
 // Each position goes on to a quarter of the tokens that it may be among. One position after another, each from a place of its own: the
-// next need not wait for it.
+// next need not wait for it. That the table is one stays a clause, here and below: see lookup::look_in.
 fn quarter_each(table: &[u32], size: usize, positions: &[u32], found: &mut [u32])
     requires { ((bad_table (length table.now) ≡ false) × (Rising table.now × (4 ≤ size))) × ((pairs (length positions.now) ≤ length found.old) × Each table.now positions.now size found.old found.old) }
     ensures { Each table.now positions.now (size - 3 * (size / 4)) found.old found.new }

@@ -1,6 +1,6 @@
 -- Worked texts: what is written of the last pair of tokens, whole and cut, and of two equal tokens, computed; and that the pair can be
 -- cut, so that what is said of cuts is said of something. Assumes nothing.
-use Rattle.std.specs.Prelude.{◌≡◌, refl, true, List, [], ◌∷◌, ℕ, Ok, Err}
+use Rattle.std.specs.Prelude.{◌≡◌, refl, true, List, [], ◌∷◌, ℕ, Result, Ok, Err}
 use Rattle.std.proofs.Common.{arith}
 use Rattle.list.specs.Memory.{onto}
 use Rattle.code.specs.declared.Code.{Code}
@@ -8,7 +8,8 @@ use Rattle.token.specs.Table.{no_id, no_segment, token_at, tokens_from}
 use Rattle.digits.specs.Digits.{char_of}
 use Rattle.vlq_write.specs.Write.{vlq_value, digits_of}
 use Rattle.chunk.specs.Chunk.{chunk_of, fresh, lead, base_of, fields_of, spelled, bytes_of, after, written, end_of, first_back}
-use Rattle.encode.specs.Encode.{bytes_in, encoded}
+use Rattle.encode.specs.declared.Encoded.{Encoded}
+use Rattle.encode.specs.Encode.{bytes_in, encoded, bytes_out, next_out}
 use Rattle.premises.specs.Premises.{follows, follow, decides}
 use Rattle.round.specs.Terms.{whole, Call, Cut, joined}
 
@@ -46,10 +47,13 @@ pub joined_pair : joined three ≡ 65 ∷ 65 ∷ 69 ∷ 71 ∷ 59 ∷ 67 ∷ []
 unfolding joined
 joined_pair = refl
 
--- a byte short: the call is refused
-pub short_pair : encoded pair (chunk_of 1 2 0 0 2 3 0 0) 1 ≡ Err (Code.NoRoom 2)
+-- a byte short: the call is refused, and its chunk handed back
+abbrev short : Result Encoded Code
+short = encoded pair (chunk_of 1 2 0 0 2 3 0 0) 1
+
+pub short_pair : (short ≡ Err (Code.NoRoom 2)) × ((bytes_out short ≡ 0) × (next_out (chunk_of 1 2 0 0 2 3 0 0) short ≡ chunk_of 1 2 0 0 2 3 0 0))
 unfolding encoded first_back end_of tokens_from token_at written bytes_of lead spelled fields_of base_of after vlq_value digits_of char_of
-short_pair = refl
+short_pair = (refl, (refl, refl))
 
 -- two tokens 0 0 0 0 0 none: `AAAA,AAAA`
 abbrev equals : List ℕ

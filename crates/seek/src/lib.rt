@@ -86,7 +86,7 @@ pub fn first_place(table: &[u32]) -> Option<usize>
 // lookup::look_in.
 pub fn seek(table: &[u32], place: Option<usize>, p: Position) -> Sought
     requires { (bad_table (length table.now) ≡ false) × IfSome place (Halvable table.now) }
-    ensures { Seeks table.now p.line p.col result }
+    ensures { Seeks table.now place p.line p.col result }
 {
     let Some(from) = place else {
         return Sought {

@@ -1,5 +1,5 @@
 -- The sum of a running number and the value that the writer gives a step. Assumes nothing.
-use Rattle.std.specs.Prelude.{Some, Ok, ℤ}
+use Rattle.std.specs.Prelude.{Some, Ok}
 use mathlib.Core.Path.{◌≡◌, ap}
 use mathlib.Core.Bool.{true}
 use Prim.Native.Nat.{ℕ, ◌^◌, ◌<◌}

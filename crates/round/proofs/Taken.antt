@@ -1,5 +1,5 @@
 -- The segment of a token, read where the writer stood, gives the token and the state that the writer leaves. Assumes nothing.
-use Rattle.std.specs.Prelude.{Some, Ok, Err, ℤ}
+use Rattle.std.specs.Prelude.{Some, Ok, Err}
 use mathlib.Core.Path.{◌≡◌, refl, ◌∙◌, ap}
 use mathlib.Core.Bool.{Bool, true, false}
 use mathlib.Core.List.{List, [], ◌∷◌}

@@ -5,15 +5,12 @@ use mathlib.Core.List.{List, [], ◌∷◌}
 use Prim.Native.Nat.{ℕ, suc, ◌+◌, ◌-◌, ◌^◌, ◌≤◌, ◌<◌}
 use native.Mathlib.Omega.{arith}
 use lib.Dec.{eqb}
-use lib.ListN.{length, set, take, drop, replicate, length-drop, length-replicate}
-use lib.Seq.{drop-drop, length-take-le}
+use lib.ListN.{length, set, replicate, length-replicate}
 use mir.Val.{bool_byte as from_bool}
-use borrow.Rule.Slice.PartMut.{put_mid}
 use borrow.Author.Tests.{eq-eqb, ne_eqb}
 use Rattle.list.specs.Pick.{pick}
-use Rattle.list.specs.Memory.{blit}
 use Rattle.list.specs.Put.{Put}
-use Rattle.list.proofs.Put.{put_nothing, put_byte, put_then, put_is}
+use Rattle.list.proofs.Put.{put_nothing, put_byte, put_then, put_is, Due, due_all, due_is, due_same, due_none, due_byte_fits, due_byte}
 use Rattle.chunk.specs.Chunk.{lead}
 use Rattle.chunk.specs.Parts.{LeadSize}
 
@@ -64,17 +61,45 @@ module _ (f : Bool) (a b : ℕ) where
   pub size_semis : (a ≡ b → ⊥) → b < 2 ^ 32 → LeadSize f a b (b - a)
   size_semis n h = record { is = rw (lead_semis n) (sym (length-replicate (b - a) 59)); few = omega arith }
 
--- ---- the run of `;`: ys is what the part of n bytes from the place on holds then
-pub put_run : (out : List ℕ) (at count n : ℕ) (ys : List ℕ) → at + count ≤ length out → n ≡ count → ys ≡ replicate (length (take n (drop at out))) 59
-    → Put out at (replicate count 59) (at + count) (put_mid at n out ys)
-unfolding blit
-put_run out at count n ys h e q =
-    let part : length (take n (drop at out)) ≡ count = length-take-le n (drop at out) (simp length-drop (omega arith)) ∙ e in
-    let whole : length {A = ℕ} (replicate count 59) ≡ count = length-replicate count 59 in
+-- ---- the loop of `;`: k are put
+pub record Semis (out₀ : List ℕ) (at count : ℕ) (out : List ℕ) (i k : ℕ) : Type 0 where
+  pub few : k ≤ count
+  pub due : Due out₀ at (replicate count 59) (replicate (count - k) 59) i out
+
+pub semis_start : (out₀ : List ℕ) (at count : ℕ) → at + count ≤ length out₀ → Semis out₀ at count out₀ at 0
+semis_start out₀ at count h =
+    let e : count ≡ count - 0 = omega arith in
     record {
-      past = rw whole;
-      wrote = rw (q, part, drop-drop n at out, e, whole);
+      few = omega arith;
+      due =
+          due_is out₀ at (replicate count 59) (replicate count 59) (replicate (count - 0) 59) at out₀ (ap (λ (n : ℕ). replicate n 59) e)
+          (due_all out₀ at (replicate count 59) (simp length-replicate h));
     }
+
+module _ (out₀ : List ℕ) (at count : ℕ) (out : List ℕ) (i k : ℕ) (s : Semis out₀ at count out i k) where
+  pub semis_same : length out ≡ length out₀
+  semis_same = due_same out₀ at (replicate count 59) (replicate (count - k) 59) i out s.due
+
+  module _ (h : k < count) where
+    next : Due out₀ at (replicate count 59) (59 ∷ replicate (count - (k + 1)) 59) i out
+    next =
+        let e : count - k ≡ suc (count - (k + 1)) = omega arith in
+        due_is out₀ at (replicate count 59) (replicate (count - k) 59) (59 ∷ replicate (count - (k + 1)) 59) i out (ap (λ (n : ℕ). replicate n 59) e) s.due
+
+    pub semis_inside : i < length out
+    semis_inside = due_byte_fits out₀ at (replicate count 59) 59 (replicate (count - (k + 1)) 59) i out next
+
+    pub semis_turn : Semis out₀ at count (set out i 59) (i + 1) (k + 1)
+    semis_turn =
+        record {
+          few = omega arith;
+          due = due_byte out₀ at (replicate count 59) 59 (replicate (count - (k + 1)) 59) i out next;
+        }
+
+  pub semis_end : count ≤ k → Put out₀ at (replicate count 59) i out
+  semis_end h =
+      let e : count - k ≡ 0 = omega arith in
+      due_none out₀ at (replicate count 59) (replicate (count - k) 59) i out s.due (ap (λ (n : ℕ). replicate n 59) e)
 
 -- ---- the lead put
 module _ (out : List ℕ) (at : ℕ) (f : Bool) (a b : ℕ) where

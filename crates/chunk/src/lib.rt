@@ -12,6 +12,7 @@ ghost use Rattle.chunk.specs.Chunk.{lead, base_of, spelled, bytes_of, after};
 ghost use Rattle.chunk.specs.Parts.{LeadSize, NameSize, source_of, SourceSize};
 
 use token::{Token, TokenChunk};
+use vlq_write::Tables;
 
 // The column that a token's column is counted from.
 pub fn base_of(p: TokenChunk, t: Token) -> u32
@@ -110,16 +111,22 @@ pub fn token_size(first: bool, p: TokenChunk, t: Token) -> u64
     n + source_size(p, t)
 }
 
+// A loop, and not `fill`: inline, `fill` takes registers from the loop that writes the tokens (docs/LOOK-BACK.md).
 fn put_semis(out: &mut [u8], at: usize, count: u32) -> usize
     requires { at + count ≤ length out.old }
     ensures { Put out.old at (replicate count 59) result out.new }
 {
-    let end = at + count as usize;
-    out[at..end].fill(b';');
-    end
+    let mut i = at;
+    let mut k: u32 = 0;
+    while k < count {
+        out[i] = b';';
+        i += 1;
+        k += 1;
+    }
+    i
 }
 
-// The first `;` is stored by itself: most tokens advance one line at the most, and filling is a call.
+// The first `;` is stored by itself: most tokens advance one line at the most, and the loop is a call.
 fn put_lead(out: &mut [u8], at: usize, first: bool, from: u32, to: u32) -> usize
     requires from_le_to { from ≤ to }
     requires to_in_bounds { at + length (lead first from to) ≤ length out.old }
@@ -140,29 +147,36 @@ fn put_lead(out: &mut [u8], at: usize, first: bool, from: u32, to: u32) -> usize
 }
 
 // The fields after the first, of a token with a source.
-fn put_source(out: &mut [u8], at: usize, p: TokenChunk, t: Token) -> usize
+fn put_source(tables: &Tables, out: &mut [u8], at: usize, p: TokenChunk, t: Token) -> usize
     requires { at + length (spelled (source_of p t)) ≤ length out.old }
     ensures { Put out.old at (spelled (source_of p t)) result out.new }
 {
-    let a = vlq_write::put_step(out, at, t.source_id, p.prev_source_id);
-    let b = vlq_write::put_step(out, a, t.src_line, p.prev_src_line);
-    let c = vlq_write::put_step(out, b, t.src_col, p.prev_src_col);
+    let a = vlq_write::put_step(tables, out, at, t.source_id, p.prev_source_id);
+    let b = vlq_write::put_step(tables, out, a, t.src_line, p.prev_src_line);
+    let c = vlq_write::put_step(tables, out, b, t.src_col, p.prev_src_col);
     if t.name_id == token::NONE {
         return c;
     }
-    vlq_write::put_step(out, c, t.name_id, p.prev_name_id)
+    vlq_write::put_step(tables, out, c, t.name_id, p.prev_name_id)
 }
 
 // All the bytes of a token, from `at` on; the place after them.
-pub fn put_token(out: &mut [u8], at: usize, first: bool, p: TokenChunk, t: Token) -> usize
+pub fn put_token(
+    tables: &Tables,
+    out: &mut [u8],
+    at: usize,
+    first: bool,
+    p: TokenChunk,
+    t: Token,
+) -> usize
     requires prev_dst_line_bound { p.prev_dst_line ≤ t.dst_line }
     requires t_in_bounds { at + length (bytes_of first p t) ≤ length out.old }
     ensures { Put out.old at (bytes_of first p t) result out.new }
 {
     let a = put_lead(out, at, first, p.prev_dst_line, t.dst_line);
-    let b = vlq_write::put_step(out, a, t.dst_col, base_of(p, t));
+    let b = vlq_write::put_step(tables, out, a, t.dst_col, base_of(p, t));
     if t.source_id == token::NONE {
         return b;
     }
-    put_source(out, b, p, t)
+    put_source(tables, out, b, p, t)
 }

@@ -103,5 +103,9 @@ module _ (m : Maps) (numbers room : ℕ) where
       If : Result ℕ Code → Type 0
       If x = Ok tt ≡ refusal_of x → Leads x
 
+  -- ---- a refusal counts no added name
+  pub refuses : (c : Code) → Err c ≡ refusal_of (composed m numbers room) → composed m numbers room ≡ Err c
+  refuses c e = err_is (composed m numbers room) c e
+
   pub opens : Ok tt ≡ refusal_of (composed m numbers room) → Opens
   opens e = let l = leads e in record { ready = l.ready; is = l.is }

@@ -5,9 +5,12 @@ ghost use Rattle.std.specs.Prelude.{◌≡◌, ◌+◌, ◌<◌, ◌≤◌, leng
 ghost use Rattle.digits.specs.Digits.{class_of, char_of, is_delim};
 ghost use Rattle.digits.specs.Tables.{word};
 
-// The characters of the digits 0 to 63. A constant array would be made anew at each use, and a static is not.
-pub static B64_CHARS: [u8; 64] =
+// The characters of the digits 0 to 63.
+pub const B64_CHARS: [u8; 64] =
     *b"ABCDEFGHIJKLMNOPQRSTUVWXYZabcdefghijklmnopqrstuvwxyz0123456789+/";
+
+// The same, where they lie once: a constant array is made anew at each use, and a static is not.
+static CHARS: [u8; 64] = B64_CHARS;
 
 // `,` or `;`: of the 256 numbers 17 b + 21, modulo 256, theirs are 1 and 0. One comparison, so that nothing branches on which it is.
 pub fn is_delim(b: u8) -> bool
@@ -44,5 +47,5 @@ pub fn digit_char(d: u64) -> u8
     requires { d < 64 }
     ensures { result ≡ char_of d }
 {
-    B64_CHARS[d as usize]
+    CHARS[d as usize]
 }

@@ -7,6 +7,7 @@ ghost use Rattle.encode.specs.Passes.{Backs, Bounded, Counted, Inside, Rising, W
 
 use code::Code;
 use token::TokenChunk;
+use vlq_write::Tables;
 
 // The bytes written, and the state for the chunk that begins where this one ends.
 #[derive(Clone, Copy)]
@@ -50,7 +51,7 @@ fn measured(table: &[u32], chunk: TokenChunk) -> Result<u64, Code>
 }
 
 // Writes a chunk that fits and whose lines do not go back.
-fn write_all(table: &[u32], chunk: TokenChunk, out: &mut [u8]) -> Encoded
+fn write_all(tables: &Tables, table: &[u32], chunk: TokenChunk, out: &mut [u8]) -> Encoded
     requires { Writable table.now chunk out.old }
     ensures { Writes table.now chunk out.old result out.new }
 {
@@ -58,7 +59,7 @@ fn write_all(table: &[u32], chunk: TokenChunk, out: &mut [u8]) -> Encoded
     let mut at: usize = 0;
     for i in chunk.start as usize..chunk.end as usize {
         let t = token::token_at(table, i);
-        at = chunk::put_token(out, at, i == 0, p, t);
+        at = chunk::put_token(tables, out, at, i == 0, p, t);
         p = chunk::after(p, t);
     }
     Encoded {
@@ -105,5 +106,6 @@ pub fn serialize_mappings(table: &[u32], chunk: TokenChunk, out: &mut [u8]) -> R
     if (out.len() as u64) < needed {
         return Err(Code::NoRoom(needed));
     }
-    Ok(write_all(table, chunk, out))
+    let tables = Tables::new();
+    Ok(write_all(&tables, table, chunk, out))
 }

@@ -31,6 +31,11 @@ module _ (a asked : ℕ) where
       by true q = omega (arith, q)
       by false q = omega (arith, q)
 
+-- a token counted where there is one
+pub few_most : (b : Bool) (a asked r : ℕ) → r ≡ pick b (count_of a asked) 0 → r ≤ 1
+few_most true a asked r e = at_most a asked r e
+few_most false a asked r e = omega (arith, e)
+
 -- a token by its first two numbers: among the table's, and among those from the token at `base` on
 module _ (table : List ℕ) where
   key_is : (i : ℕ) → key_of (get_or table (width * i) 0) (get_or table (width * i + 1) 0) ≡ key_at table i

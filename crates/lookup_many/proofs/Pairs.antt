@@ -1,13 +1,16 @@
 -- The list of what is found: place after place, then one list after another. Assumes nothing.
 use mathlib.Core.Path.{◌≡◌, refl, sym, ◌∙◌, ap, subst}
+use mathlib.Core.Bool.{Bool, true, false}
 use mathlib.Core.List.{List, ◌++◌}
 use Prim.Native.Nat.{ℕ, ◌<◌, ◌≤◌}
 use native.Mathlib.Omega.{arith}
+use lib.Dec.{eqb}
 use lib.ListN.{length, take, drop, get_or, replicate}
-use borrow.Author.Tests.{ne_eqb}
+use borrow.Author.Tests.{ne_eqb, eqb-true}
 use Rattle.std.proofs.lemmas.List.{get_or-replicate, length-replicate, length-take-le, get_or_append_left, length-append, length-drop}
 use Rattle.std.proofs.lemmas.Slice.{drop-append-drop}
 use Rattle.std.specs.Prelude.{Option, Some, None}
+use Rattle.list.specs.Pick.{pick}
 use Rattle.lookup_many.specs.Places.{found_in, place_of, Filled}
 
 -- of the first count places, k hold what is new, and the others what is old
@@ -38,3 +41,11 @@ put_in_all P count v found new h e p =
 pub placed : (o : Option ℕ) → ((j : ℕ) → o ≡ Some j → j < 4294967295) → found_in (place_of o) ≡ o
 placed None small = refl
 placed (Some i) small = let h = small i refl in rw (ne_eqb i 4294967295 (λ e. omega arith))
+
+-- and the other way round: a place is what is found in it, put into a place
+pub held_back : (n : ℕ) → n ≡ place_of (found_in n)
+held_back n = go (eqb n 4294967295) refl
+  where
+    go : (b : Bool) → eqb n 4294967295 ≡ b → n ≡ place_of (pick b None (Some n))
+    go true e = eqb-true n 4294967295 e
+    go false e = refl

@@ -5,6 +5,7 @@ ghost use Rattle.std.specs.Prelude.{◌≡◌, ℕ, false, ◌<◌, ◌≤◌, l
 ghost use Rattle.token.specs.Table.{places, bad_table};
 ghost use Rattle.lookup.specs.Lookup.{best_of};
 ghost use Rattle.lookup.specs.Parts.{Between};
+ghost use Rattle.order.specs.Keys.{key_of};
 ghost use Rattle.lookup_many.specs.Many.{pairs, many_to, LooksMany};
 ghost use Rattle.lookup_many.specs.Blocks.{Spans, Held};
 ghost use Rattle.lookup_many.specs.Places.{pair_at, found_in, place_of, Filled};
@@ -58,9 +59,9 @@ fn block_of(table: &[u32], from: usize, to: usize) -> Block
     Block { least, most, last }
 }
 
-// The best token before `to` for a position, where `found` is the best before `from`. Only a block that the position lies within is
-// read again.
-fn past_block(
+// The best token before `to` for a position that the block's lie around, where `found` is the best before `from`. Only a block that the
+// position lies within is read again.
+fn best_past(
     table: &[u32],
     from: usize,
     to: usize,
@@ -68,17 +69,11 @@ fn past_block(
     p: Position,
     found: Option<u32>,
 ) -> Option<u32>
-    requires { Between table.now from to × (Spans table.now from to b × (found ≡ best_of table.now p.line p.col from)) }
+    requires spans { Between table.now from to × (Spans table.now from to b × (found ≡ best_of table.now p.line p.col from)) }
+    requires around { key_of p.line 0 ≤ b.most }
     ensures { result ≡ best_of table.now p.line p.col to }
 {
-    let asked = order::key_of(p.line, p.col);
-    if asked < b.least {
-        return found;
-    }
-    if b.most < order::key_of(p.line, 0) {
-        return found;
-    }
-    if asked < b.most {
+    if order::key_of(p.line, p.col) < b.most {
         return lookup::best_in(table, from, to, p, found);
     }
     if let Some(i) = found {
@@ -106,6 +101,21 @@ pub fn place_of(found: Option<u32>) -> u32
     found.unwrap_or(NONE)
 }
 
+// The same, as the places of the lent list hold it. Most blocks say nothing of a position: then its place stays, and is not turned into
+// what is found and back.
+fn past_block(table: &[u32], from: usize, to: usize, b: Block, p: Position, place: u32) -> u32
+    requires { Between table.now from to × (Spans table.now from to b × (found_in place ≡ best_of table.now p.line p.col from)) }
+    ensures { result ≡ place_of (best_of table.now p.line p.col to) }
+{
+    if order::key_of(p.line, p.col) < b.least {
+        return place;
+    }
+    if b.most < order::key_of(p.line, 0) {
+        return place;
+    }
+    place_of(best_past(table, from, to, b, p, found_in(place)))
+}
+
 // The place of each pair holds what `f` makes of the pair and of what the place held.
 pub fn each_place<F: Fn(Position, u32) -> u32>(positions: &[u32], found: &mut [u32], f: F)
     requires fits { pairs (length positions.now) ≤ length found.old }
@@ -129,7 +139,7 @@ fn look_block(table: &[u32], from: usize, to: usize, positions: &[u32], found: &
         |p: Position, place: u32| -> u32
             requires { Between table.now from to × (Spans table.now from to b × (found_in place ≡ best_of table.now p.line p.col from)) }
             ensures { result ≡ place_of (best_of table.entry.now p.line p.col to) }
-        { place_of(past_block(table, from, to, b, p, found_in(place))) },
+        { past_block(table, from, to, b, p, place) },
     );
 }
 

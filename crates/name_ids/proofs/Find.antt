@@ -18,6 +18,10 @@ use Rattle.list.proofs.Same.{same_is, same_self, equal_same}
 use Rattle.name_ids.specs.NameIds.{first_name, first_added}
 
 -- the code compares a part of the text that is the name
+-- what a test of two names says, of the name that a part is: by `same_bytes`, and by `==`
+pub told_same : (r t : Bool) (part name other : List ℕ) → r ≡ same part other → part ≡ name → r ≡ t → same name other ≡ t
+told_same r t part name other e p f = sym (ap (λ (l : List ℕ). same l other) p) ∙ (sym e ∙ f)
+
 pub told : (r t : Bool) (part name other : List ℕ) → r ≡ pointwise eqb part other → part ≡ name → r ≡ t → same name other ≡ t
 told r t part name other e p f = sym (ap (λ (l : List ℕ). same l other) p) ∙ (sym (equal_same part other) ∙ (sym e ∙ f))
 

@@ -23,7 +23,7 @@ fn first_name(names: Names<'_, '_>, name: &[u8]) -> Option<usize>
 {
     let mut from = 0;
     for (k, &end) in names.ends.iter().enumerate() {
-        if &names.text[from..end] == name {
+        if names::same_bytes(&names.text[from..end], name) {
             return Some(k);
         }
         from = end;
@@ -37,7 +37,7 @@ fn first_added(outer: Names<'_, '_>, ids: &[u32], name: &[u8]) -> Option<usize>
     ensures { result ≡ first_added (list_of outer.entry) name.now 0 ids.now }
 {
     for (j, &k) in ids.iter().enumerate() {
-        if outer.name_at(k as usize) == name {
+        if names::same_bytes(outer.name_at(k as usize), name) {
             return Some(j);
         }
     }

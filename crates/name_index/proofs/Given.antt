@@ -70,12 +70,15 @@ module _ (inner outer : NameList) (ids work : List ℕ) (s : Searchable inner ou
         pub room : length ids < count outer
         room = new_room inner outer ids s.kept id h none_same
 
+        pub fresh_is : named_by ids id (New total) ≡ outer_named inner outer ids id
+        fresh_is = sym (new inner outer ids s.kept id h none_same)
+
         pub fresh : (slot : ℕ) → slot ≡ slot_of slots name → (work' : List ℕ) → work' ≡ entered slots slot total work
             → Answered inner outer ids id (New total) (set work' (slots + slots + id) (total + 1))
         fresh slot e work' w =
             let n = new inner outer ids s.kept id h none_same in
             rw w
-            (answered (New total) (set (entered slots slot total work) (slots + slots + id) (total + 1)) (sym n)
+            (answered (New total) (set (entered slots slot total work) (slots + slots + id) (total + 1)) fresh_is
             (new_indexed inner outer ids work x id room slot (slot_is slot e) (e ∙ ap (slot_of slots) en) h n))
 
       -- the latest that has them

@@ -1,3 +1,4 @@
+pub mod Bytes
 pub mod Ends
 pub mod Ids
 pub mod Places

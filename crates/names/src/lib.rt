@@ -2,10 +2,25 @@
 #![tactic(auto)]
 
 ghost use Rattle.std.specs.Prelude.{◌≡◌, true, ◌<◌, ◌≤◌, length};
+ghost use Rattle.list.specs.Same.{same};
 ghost use Rattle.names.specs.Names.{list_of, begin_of, sound, name_at, exists, place_at, place_of, name_of};
 
 // The most names that a list may have.
 pub const MOST: usize = 2147483647;
+
+// Whether two names have the same bytes. Most differ in their length or their first byte: these are looked at before the rest, since `==`
+// takes more to begin with than a short name takes as a whole.
+pub fn same_bytes(a: &[u8], b: &[u8]) -> bool
+    ensures { result ≡ same a.now b.now }
+{
+    if a.len() != b.len() {
+        return false;
+    }
+    if a.len() != 0 && a[0] != b[0] {
+        return false;
+    }
+    a == b
+}
 
 // A text, and where each name ends in it. A name is a part of the text, and outlives the ends.
 #[derive(Clone, Copy)]

@@ -5,6 +5,7 @@ use Rattle.code.specs.declared.Code.{Code}
 use Rattle.token.specs.declared.TokenChunk.{TokenChunk}
 use Rattle.decode.specs.declared.Decoded.{Decoded}
 use Rattle.encode.specs.declared.Encoded.{Encoded}
+use Rattle.encode.specs.Encode.{bytes_out, next_out}
 use Rattle.names.specs.declared.NamePlace.{NamePlace}
 use Rattle.peghayrick.specs.declared.ComparedOut.{ComparedOut}
 use Rattle.peghayrick.specs.declared.ComposedOut.{ComposedOut}
@@ -32,8 +33,8 @@ decoded_out d = record { code = (answer_of d.end).code; number = (answer_of d.en
 
 -- a refusal counts no bytes, and gives back the chunk that it was given
 abbrev pub encoded_out : TokenChunk → Result Encoded Code → EncodedOut
-encoded_out chunk (Ok e) = record { code = 0; number = 0; bytes = e.bytes; next = e.next }
-encoded_out chunk (Err c) = record { code = code_of c; number = number_of c; bytes = 0; next = chunk }
+encoded_out chunk (Ok e) = record { code = 0; number = 0; bytes = bytes_out (Ok e); next = next_out chunk (Ok e) }
+encoded_out chunk (Err c) = record { code = code_of c; number = number_of c; bytes = bytes_out (Err c); next = next_out chunk (Err c) }
 
 abbrev pub compared_out : Result ℕ Code → ComparedOut
 compared_out (Ok entries) = record { code = 0; number = 0; entries = entries }

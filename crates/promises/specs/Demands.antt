@@ -5,8 +5,11 @@
 -- leaves one answer and one content of everything lent.
 -- Demand 2: the answers are those of the definitions, and the definitions give the worked texts (Worked.antt).
 -- Demand 3: what is written reads back.
-use Rattle.std.specs.Prelude.{◌≡◌, refl, List, ℕ, ◌<◌, ◌≤◌, length, get_or}
+use Rattle.std.specs.Prelude.{◌≡◌, refl, List, ℕ, ◌<◌, ◌≤◌, length, get_or, Result, Ok, Err, is_ok}
 use Rattle.std.proofs.Common.{sym, ◌∙◌, ap}
+use Rattle.list.specs.Memory.{onto}
+use Rattle.list.specs.Pick.{pick}
+use Rattle.code.specs.declared.Code.{Code}
 use Rattle.token.specs.declared.Token.{Token}
 use Rattle.token.specs.declared.TokenChunk.{TokenChunk}
 use Rattle.value.specs.declared.Mode.{Mode}
@@ -23,7 +26,8 @@ use Rattle.exact.proofs.Exact as exact
 use Rattle.exact.proofs.OneReading as reading
 use Rattle.table_size.specs.Size.{NeverFull}
 use Rattle.table_size.proofs.Enough as size
-use Rattle.encode.specs.Encode.{Encodes}
+use Rattle.encode.specs.declared.Encoded.{Encoded}
+use Rattle.encode.specs.Encode.{bytes_in, Encodes}
 use Rattle.encode.proofs.Unique as encode
 use Rattle.translate.specs.Translate.{Translates}
 use Rattle.translate.proofs.Whole as translate
@@ -87,6 +91,22 @@ pub one_encode : (table : List ℕ) (c : TokenChunk) (out : List ℕ) (r s : Enc
 one_encode table c out r s x y a b =
     let e = encode.one_answer table c out a.inner b.inner x y a.holds b.holds in
     (a.says ∙ ap (encoded_out c) e.0 ∙ sym b.says, e.1)
+
+refused_is : (table : List ℕ) (c : TokenChunk) (out x : List ℕ) (e : Result Encoded Code) (r : EncodedOut) → Encodes table c out e x → r ≡ encoded_out c e
+    → (r.code ≡ 0 → ⊥) → (r.bytes ≡ 0) × ((r.next ≡ c) × (x ≡ out))
+refused_is table c out x (Ok e) r w s n = absurd (n (ap (λ (o : EncodedOut). o.code) s))
+refused_is table c out x (Err d) r w s n = (
+  ap (λ (o : EncodedOut). o.bytes) s,
+  (
+    ap (λ (o : EncodedOut). o.next) s,
+    w.wrote ∙ ap (λ (q : Result Encoded Code). pick (is_ok q) (onto (bytes_in table c) out) out) (sym w.says),
+  ),
+)
+
+-- a refusal of it counts no bytes, gives the chunk back as it was given, and leaves the lent bytes as they were
+pub refused_encode : (table : List ℕ) (c : TokenChunk) (out : List ℕ) (r : EncodedOut) (x : List ℕ) → Goes (λ e. Encodes table c out e x) (encoded_out c) r
+    → (r.code ≡ 0 → ⊥) → (r.bytes ≡ 0) × ((r.next ≡ c) × (x ≡ out))
+refused_encode table c out r x a n = refused_is table c out x a.inner r a.holds a.says n
 
 -- pgk_translate
 pub one_translate : (line source name : ℕ) (table : List ℕ) (r s : Answer) (x y : List ℕ)

@@ -1,4 +1,4 @@
--- Translating a list of records: what the loop that moves knows, and that there is one answer. Assumes nothing.
+-- Translating a list of records: what the loop that moves knows, what each answer says, and that there is one. Assumes nothing.
 use mathlib.Core.Path.{◌≡◌, refl, sym, ◌∙◌, ap}
 use mathlib.Core.Bool.{Bool, true, false}
 use mathlib.Core.List.{List, [], ◌∷◌, ◌++◌, map, map-append, append-nil}
@@ -9,7 +9,7 @@ use lib.Dec.{ltb}
 use lib.ListN.{length, get_or, set, take, drop, length-map}
 use lib.Seq.{drop-cons, take-suc, take-length, drop-length, length-take-le, get_or_at, set_at, append_snoc}
 use borrow.Author.Tests.{lt-ltb, le-ltb}
-use Rattle.std.specs.Prelude.{Option, Some, None, Result, Ok, Err, ⊤}
+use Rattle.std.specs.Prelude.{Option, Some, None, Result, Ok, Err, is_ok, ⊤}
 use Rattle.list.specs.Pick.{pick}
 use Rattle.code.specs.declared.Code.{Code}
 use Rattle.token.specs.declared.Token.{Token}
@@ -56,6 +56,22 @@ module _ (line source name : ℕ) (ts : List Token) where
       → ((k : ℕ) (t : Token) → k < length ts → P k t → t ≡ get_or ts k no_token) → r ≡ records_to line source name ts
   unfolding records_to
   looked P few r l reads = rw (le-ltb 4294967294 (length ts) few) (answer_is line source name no_token P ts (length ts) refl reads r l)
+
+  -- the list is translated where the answer is Ok
+  pub answered : (r : Result ⊤ Code) (ts' : List Token) → records_to line source name ts ≡ r → ts' ≡ pick (is_ok r) (all_moved line source name ts) ts
+      → TranslatesRecords line source name ts r ts'
+  answered r ts' e w = record { says = sym e; wrote = w ∙ ap (λ (q : Result ⊤ Code). pick (is_ok q) (all_moved line source name ts) ts) (sym e) }
+
+  -- no record is too big
+  pub cleared : length ts ≤ 4294967294 → ((k : ℕ) → k < length ts → too_big line source name (get_or ts k no_token) ≡ false) → records_to line source name ts ≡ Ok tt
+  cleared few small =
+      sym (looked (λ k t. t ≡ get_or ts k no_token) few (Ok tt) (λ k h. (get_or ts k no_token, (refl, small k h))) (λ k t h e. e))
+
+  -- no token before the i-th is too big
+  pub is_first : length ts ≤ 4294967294 → (i : ℕ) → first_too_big line source name 0 ts ≡ first_too_big line source name i (drop i ts)
+      → records_to line source name ts ≡ unless_too_big (first_too_big line source name i (drop i ts))
+  unfolding records_to
+  is_first few i rest = rw (le-ltb 4294967294 (length ts) few) (ap unless_too_big rest)
 
   none_if : (b : Bool) (o : Option ℕ) → Ok tt ≡ pick b (Err Code.BadTable) (unless_too_big o) → o ≡ None
   none_if true o e = absurd (cc)

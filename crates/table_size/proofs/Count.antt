@@ -1,18 +1,25 @@
 -- Each turn of the loop that counts segments. Assumes nothing.
-use mathlib.Core.Path.{◌≡◌, ◌∙◌}
+use mathlib.Core.Path.{◌≡◌, sym, ◌∙◌}
 use mathlib.Core.Bool.{Bool, true, false, not}
+use mathlib.Core.Logic.{⊎_elim}
 use mathlib.Core.List.{List, ◌∷◌}
 use Prim.Native.Nat.{ℕ, ◌+◌, ◌*◌, ◌/◌, ◌<◌, ◌≤◌}
 use native.Mathlib.Omega.{arith}
 use native.Mathlib.Numerals.{add-one}
-use lib.Dec.{ltb}
+use lib.Dec.{eqb, ltb}
 use lib.ListN.{length, drop, get_or, drop_of_length-le}
 use lib.Seq.{drop-cons}
-use borrow.Author.Tests.{lt-ltb, le-ltb}
+use borrow.Author.Tests.{lt-ltb, le-ltb, eq-eqb, ne_eqb}
 use Rattle.list.specs.Pick.{pick}
 use Rattle.token.specs.Table.{width}
-use Rattle.digits.specs.Digits.{is_delim}
+use Rattle.digits.specs.Digits.{is_delim, class_of}
+use Rattle.digits.proofs.Tables.{code_cases}
 use Rattle.table_size.specs.Size.{segments_from}
+
+-- a byte's code is 64 exactly where it is a delimiter
+pub coded : (b r : ℕ) → b < 256 → r ≡ class_of b → eqb r 64 ≡ is_delim b
+coded b r h e =
+    ⊎_elim (λ k. eq-eqb r 64 (e ∙ k.is) ∙ sym k.delim) (λ k. ne_eqb r 64 (λ q. omega (arith, k.small)) ∙ sym k.delim) (code_cases b h)
 
 -- the segments that begin before the i-th byte are counted
 pub record Counting (text : List ℕ) (n : ℕ) (inside : Bool) (i : ℕ) : Type 0 where

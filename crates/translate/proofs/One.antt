@@ -1,9 +1,19 @@
--- One token that is not too big: what holds of it, and what it is moved to. Assumes nothing.
-use Rattle.std.proofs.Common.{◌≡◌, ℕ, ◌+◌, ◌≤◌, Bool, true, false, ltb, refl, arith, ltb-false}
+-- One id and one token that are not too big: what holds of them, and what they are moved to. Assumes nothing.
+use Rattle.std.proofs.Common.{◌≡◌, ℕ, ◌+◌, ◌<◌, ◌≤◌, Bool, true, false, ltb, refl, arith, ltb-false, eq-eqb, ne_eqb, leb-false}
 use Rattle.list.specs.Pick.{pick}
 use Rattle.token.specs.Table.{no_id}
 use Rattle.token.specs.declared.Token.{Token}
 use Rattle.translate.specs.Translate.{id_moved, id_too_big, too_big, moved}
+
+module _ (id offset : ℕ) (fits : id ≤ no_id) where
+  pub none_kept : id ≡ no_id → id ≡ id_moved id offset
+  none_kept e = simp (eq-eqb id no_id e)
+
+  pub some_moved : (id ≡ no_id → ⊥) → id + offset ≡ id_moved id offset
+  some_moved ne = simp (ne_eqb id no_id ne)
+
+  pub some_fits : (id ≡ no_id → ⊥) → id_too_big id offset ≡ false → id + offset < no_id
+  some_fits ne small = leb-false no_id (id + offset) (rw (ne_eqb id no_id ne) at small)
 
 either_false : (a b : Bool) → pick a true b ≡ false → (a ≡ false) × (b ≡ false)
 either_false true b e = (e, let z : ◌≡◌ {A = ℕ} 0 1 = cc in absurd (omega arith))

@@ -3,10 +3,10 @@ use Rattle.std.proofs.Common.{◌≡◌, ℕ, ◌+◌, ◌<◌, Bool, true, fals
 use Rattle.std.specs.Prelude.{Option, Some, None, Result, Ok, Err, ⊤}
 use Rattle.list.specs.Pick.{pick}
 use Rattle.code.specs.declared.Code.{Code}
-use Rattle.token.specs.Table.{bad_table, places, token_at, tokens_of}
+use Rattle.token.specs.Table.{bad_table, places, token_at, tokens_of, over}
 use Rattle.token.specs.declared.Token.{Token}
 use Rattle.token.proofs.Laws.{length_tokens}
-use Rattle.translate.specs.Translate.{first_too_big, unless_too_big, translates_to, Translates}
+use Rattle.translate.specs.Translate.{all_moved, first_too_big, unless_too_big, translates_to, Translates}
 use Rattle.translate.specs.Looks.{Looks}
 use Rattle.translate.proofs.Scan.{is_first}
 use Rattle.translate.proofs.Pass.{listed_none, listed_first, read_at}
@@ -38,6 +38,13 @@ module _ (line source name : ℕ) (table : List ℕ) where
     pub none_big : first_too_big line source name 0 (tokens_of table) ≡ None
     unfolding translates_to
     none_big = none_if (bad_table (length table)) (first_too_big line source name 0 (tokens_of table)) e
+
+    pub done : (table' : List ℕ) → table' ≡ over (all_moved line source name (tokens_of table)) table → Translates line source name table (Ok tt) table'
+    done table' et = record { says = e; wrote = rw (← e) et }
+
+  -- a refusal leaves the table as it was
+  pub refused : (c : Code) → Err c ≡ translates_to line source name table → Translates line source name table (Err c) table
+  refused c e = record { says = e; wrote = rw (← e) }
 
 pub one_answer : {line source name : ℕ} {table : List ℕ} {r s : Result ⊤ Code} {t u : List ℕ}
     → Translates line source name table r t → Translates line source name table s u → (r ≡ s) × (t ≡ u)

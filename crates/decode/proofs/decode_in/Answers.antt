@@ -3,6 +3,7 @@ use Rattle.std.specs.Prelude.{◌≡◌, Option, Some, None, Ok}
 use Rattle.std.proofs.Common.{rules}
 use mathlib.Core.Path.{sym, ap, ◌∙◌}
 use Prim.Native.Nat.{ℕ}
+use native.Mathlib.Omega.{arith}
 use Rattle.token.specs.declared.Token.{Token}
 use Rattle.apply.specs.declared.State.{State}
 use Rattle.step.specs.Step.{Step}
@@ -39,7 +40,7 @@ pub returns-then-room-tokens : goal.returns-then-room-tokens
 returns-then-room-tokens c =
     rw c.ended-then-room-tokens.ensures
     (no_place _ _ _ _ _ _ _ _ c.loop-t.invariant.0 _ _ _ (told_some _ _ _ _ c.in-Ok-Some.is c.in-Ok-Some.field-0-is c.take_segment.ensures)
-    _ c.places_in-room.ensures c.if-begin-ge-LATE.false c.if-room-tokens.true)
+    _ c.places_in-room.ensures c.if-begin-ge-LATE.false (omega (arith, c.if-room-tokens.true)))
 
 pub next_after-s-requires : goal.next_after-s-requires
 next_after-s-requires c =

@@ -1,25 +1,13 @@
 -- `lookup_many::past_block` meets its contract, by the laws of `Blocks`. Assumes nothing.
 use native.Mathlib.Omega.{arith}
-use mathlib.Core.Path.{sym, ◌∙◌}
-use Rattle.order.proofs.Rise.{narrow}
-use Rattle.lookup.proofs.Scan.{found_inside}
-use Rattle.lookup_many.proofs.Blocks.{all_after, all_before, found_first, keeps_earlier, takes_later}
+use mathlib.Core.Path.{◌∙◌, ap}
+use Rattle.lookup_many.specs.Places.{place_of}
+use Rattle.lookup_many.proofs.Blocks.{all_after, all_before}
+use Rattle.lookup_many.proofs.Pairs.{held_back}
 use Rattle.lookup_many.proofs.past_block.Goals as goal
 
-pub returns-then-asked-b : goal.returns-then-asked-b
-returns-then-asked-b c = all_after _ _ _ _ _ _ c.requires.0 c.requires.1.0 _ c.requires.1.1 (omega (arith, c.key_of-asked.ensures, c.if-asked-b.true))
+pub returns-then-key_of-b : goal.returns-then-key_of-b
+returns-then-key_of-b c = held_back _ ∙ ap place_of (all_after _ _ _ _ _ _ c.requires.0 c.requires.1.0 _ c.requires.1.1 (omega (arith, c.key_of.ensures, c.if-key_of-b.true)))
 
 pub returns-then-b-key_of : goal.returns-then-b-key_of
-returns-then-b-key_of c = all_before _ _ _ _ _ _ c.requires.0 c.requires.1.0 _ c.requires.1.1 (omega (arith, c.key_of.ensures, c.if-b-key_of.true))
-
-pub key_at-requires : goal.key_at-requires
-key_at-requires c = found_inside _ _ _ _ _ c.requires.0 _ (sym c.requires.1.1 ∙ c.in-Some.is)
-
-pub returns-then-b-key_at : goal.returns-then-b-key_at
-returns-then-b-key_at c = sym c.in-Some.is ∙ keeps_earlier _ _ _ _ _ _ c.requires.0 c.requires.1.0 _ c.requires.1.1 (omega (arith, c.key_of.ensures, c.if-b-key_of.false)) (omega (arith, c.key_of-asked.ensures, c.if-asked-b-2.false)) (omega arith) (narrow _ (λ i. omega (arith, c.type_inv.table i))) _ c.in-Some.is (omega (arith, c.key_at.ensures, c.if-b-key_at.true))
-
-pub returns-else-b-key_at : goal.returns-else-b-key_at
-returns-else-b-key_at c = takes_later _ _ _ _ _ _ c.requires.0 c.requires.1.0 _ c.requires.1.1 (omega (arith, c.key_of.ensures, c.if-b-key_of.false)) (omega (arith, c.key_of-asked.ensures, c.if-asked-b-2.false)) (omega arith) (narrow _ (λ i. omega (arith, c.type_inv.table i))) _ c.in-Some.is (omega (arith, c.key_at.ensures, c.if-b-key_at.false))
-
-pub returns-in_default : goal.returns-in_default
-returns-in_default c = found_first _ _ _ _ _ _ c.requires.0 c.requires.1.0 _ c.requires.1.1 (omega (arith, c.key_of.ensures, c.if-b-key_of.false)) (omega (arith, c.key_of-asked.ensures, c.if-asked-b-2.false)) (omega arith) (narrow _ (λ i. omega (arith, c.type_inv.table i))) c.in_default.is
+returns-then-b-key_of c = held_back _ ∙ ap place_of (all_before _ _ _ _ _ _ c.requires.0 c.requires.1.0 _ c.requires.1.1 (omega (arith, c.key_of-2.ensures, c.if-b-key_of.true)))

@@ -5,7 +5,7 @@ use Prim.Native.Nat.{◌<◌, ◌≤◌, ◌-◌}
 use lib.ListN.{length}
 use native.Mathlib.Omega.{arith}
 use Rattle.name_index.proofs.Slots.{few_slots}
-use Rattle.name_index.proofs.Given.{none, known, slot_is, within, room, fresh, old}
+use Rattle.name_index.proofs.Given.{none, known, slot_is, within, room, fresh_is, fresh, old}
 use Rattle.name_index.proofs.indexed_name_id.Goals as goal
 use Rattle.name_index.proofs.indexed_name_id.Goals.{then-entry-count, else-entry-count}
 
@@ -41,7 +41,7 @@ latest_same-requires c =
 pub enter-requires : goal.enter-requires
 enter-requires c =
     let n = room _ _ _ _ c.requires.0 c.requires.1 _ c.if-outer-k.false _ c.name_at-name.ensures _ c.latest_same.ensures c.in_default-latest_same.is in (
-      (slot_is _ _ _ _ c.requires.0 c.requires.1 _ c.if-outer-k.false _ c.name_at-name.ensures _ c.slot_of-slot.ensures, omega (arith, n)),
+      (omega (arith, slot_is _ _ _ _ c.requires.0 c.requires.1 _ c.if-outer-k.false _ c.name_at-name.ensures _ c.slot_of-slot.ensures), omega (arith, n)),
       (few_slots _ _ c.requires.0.first c.requires.0.second, omega (arith, c.requires.1.long)),
     )
 
@@ -57,7 +57,7 @@ overflow_cast-result c =
 
 pub returns-in_default-latest_same-clause-is : goal.returns-in_default-latest_same-clause-is
 returns-in_default-latest_same-clause-is c =
-    (fresh _ _ _ _ c.requires.0 c.requires.1 _ c.if-outer-k.false _ c.name_at-name.ensures _ c.latest_same.ensures c.in_default-latest_same.is _ c.slot_of-slot.ensures _ c.enter.ensures).is
+    fresh_is _ _ _ _ c.requires.0 c.requires.1 _ c.if-outer-k.false _ c.name_at-name.ensures _ c.latest_same.ensures c.in_default-latest_same.is
 
 pub returns-in_default-latest_same-clause-index : goal.returns-in_default-latest_same-clause-index
 returns-in_default-latest_same-clause-index c =

@@ -111,7 +111,8 @@ pub fn token_size(first: bool, p: TokenChunk, t: Token) -> u64
     n + source_size(p, t)
 }
 
-// A loop, and not `fill`: inline, `fill` takes registers from the loop that writes the tokens (docs/LOOK-BACK.md).
+// A loop, and not `fill`: inline, `fill` takes registers from the loop that writes the tokens, and out of line it misses a bar of speed
+// (docs/LOOK-BACK.md).
 fn put_semis(out: &mut [u8], at: usize, count: u32) -> usize
     requires { at + count ≤ length out.old }
     ensures { Put out.old at (replicate count 59) result out.new }

@@ -59,8 +59,8 @@ fn block_of(table: &[u32], from: usize, to: usize) -> Block
     Block { least, most, last }
 }
 
-// The best token before `to` for a position that the block's lie around, where `found` is the best before `from`. Only a block that the
-// position lies within is read again.
+// The best token before `to` for a position whose line the block does not end before, where `found` is the best before `from`. Only a block
+// that the position lies within is read again.
 fn best_past(
     table: &[u32],
     from: usize,
@@ -101,8 +101,8 @@ pub fn place_of(found: Option<u32>) -> u32
     found.unwrap_or(NONE)
 }
 
-// The same, as the places of the lent list hold it. Most blocks say nothing of a position: then its place stays, and is not turned into
-// what is found and back.
+// What `best_past` says, as the places of the lent list hold it. Most blocks say nothing of a position: then its place stays, and is not
+// turned into what is found and back.
 fn past_block(table: &[u32], from: usize, to: usize, b: Block, p: Position, place: u32) -> u32
     requires { Between table.now from to × (Spans table.now from to b × (found_in place ≡ best_of table.now p.line p.col from)) }
     ensures { result ≡ place_of (best_of table.now p.line p.col to) }

@@ -17,8 +17,7 @@ use Rattle.names.specs.Names.{NameList, count, name_at}
 use Rattle.list.proofs.Same.{same_is, same_self, equal_same}
 use Rattle.name_ids.specs.NameIds.{first_name, first_added}
 
--- the code compares a part of the text that is the name
--- what a test of two names says, of the name that a part is: by `same_bytes`, and by `==`
+-- the code tests a part of the text that is the name, by `same_bytes` or by `==`: what the test says of the name
 pub told_same : (r t : Bool) (part name other : List ℕ) → r ≡ same part other → part ≡ name → r ≡ t → same name other ≡ t
 told_same r t part name other e p f = sym (ap (λ (l : List ℕ). same l other) p) ∙ (sym e ∙ f)
 

@@ -1,9 +1,8 @@
 -- Names whose bytes differ: in how many there are, or in the first. Assumes nothing.
 use mathlib.Core.Path.{◌≡◌, refl, ap}
 use mathlib.Core.Bool.{Bool, true, false}
-use mathlib.Core.List.{List, [], ◌∷◌}
+use mathlib.Core.List.{List}
 use Prim.Native.Nat.{ℕ}
-use native.Mathlib.Omega.{arith}
 use lib.ListN.{length, get_or}
 use Rattle.list.specs.Same.{same}
 use Rattle.list.proofs.Same.{same_is}

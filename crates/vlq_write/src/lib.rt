@@ -76,7 +76,7 @@ pub fn step_size(a: u32, b: u32) -> u64
 }
 
 // Writes the digits of `num` from `at` on, and gives the place after them. How many they are shows only at the last, so it is no `for`.
-pub fn encode_vlq(tables: &Tables, out: &mut [u8], at: usize, num: u64) -> usize
+fn put_digits(tables: &Tables, out: &mut [u8], at: usize, num: u64) -> usize
     requires { at + length (write_of num) ≤ length out.old }
     ensures { Put out.old at (write_of num) result out.new }
 {
@@ -89,6 +89,14 @@ pub fn encode_vlq(tables: &Tables, out: &mut [u8], at: usize, num: u64) -> usize
     }
     out[i] = digit_char(tables, n);
     i + 1
+}
+
+// The same by itself, for a caller that has no tables.
+pub fn encode_vlq(out: &mut [u8], at: usize, num: u64) -> usize
+    requires { at + length (write_of num) ≤ length out.old }
+    ensures { Put out.old at (write_of num) result out.new }
+{
+    put_digits(&Tables::new(), out, at, num)
 }
 
 // What is added to the lowest digit of `n`: 32 where others follow it.
@@ -161,5 +169,5 @@ pub fn put_step(tables: &Tables, out: &mut [u8], at: usize, a: u32, b: u32) -> u
     if v < 1048576 && 4 <= out.len() - at {
         return put_few(tables, out, at, v);
     }
-    encode_vlq(tables, out, at, v)
+    put_digits(tables, out, at, v)
 }

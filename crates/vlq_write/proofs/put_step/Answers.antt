@@ -17,8 +17,8 @@ put_few-requires c = record { few = far_few _ _ _ c.off-x.ensures c.if-x-lt31.fa
 pub returns-then-out-at-ge4 : goal.returns-then-out-at-ge4
 returns-then-out-at-ge4 c = put_is _ _ _ _ _ _ (ap write_of c.vlq_value-v.ensures) c.put_few.ensures
 
-pub encode_vlq-requires : goal.encode_vlq-requires
-encode_vlq-requires c = rw c.vlq_value-v.ensures c.requires
+pub put_digits-requires : goal.put_digits-requires
+put_digits-requires c = rw c.vlq_value-v.ensures c.requires
 
 pub returns : goal.returns
-returns c = put_is _ _ _ _ _ _ (ap write_of c.vlq_value-v.ensures) c.encode_vlq.ensures
+returns c = put_is _ _ _ _ _ _ (ap write_of c.vlq_value-v.ensures) c.put_digits.ensures

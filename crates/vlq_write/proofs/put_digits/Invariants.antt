@@ -1,5 +1,5 @@
 use Rattle.vlq_write.proofs.Loop.{Writing}
-use Rattle.vlq_write.proofs.encode_vlq.Given as goal
+use Rattle.vlq_write.proofs.put_digits.Given as goal
 
 abbrev pub invariant-loop-n : goal.invariant-loop-n
 invariant-loop-n l = Writing l.initial.out l.at l.num l.out l.n l.i

@@ -1,6 +1,6 @@
 use Rattle.std.proofs.Common.{arith, length-set}
 use Rattle.vlq_write.proofs.Loop.{start, same, inside, turn, last}
-use Rattle.vlq_write.proofs.encode_vlq.Goals as goal
+use Rattle.vlq_write.proofs.put_digits.Goals as goal
 
 pub loop-n-init : goal.loop-n-init
 loop-n-init c = start _ _ _ c.requires

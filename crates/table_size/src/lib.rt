@@ -7,8 +7,8 @@ ghost use Rattle.token.specs.Table.{width};
 ghost use Rattle.digits.specs.Digits.{is_delim};
 ghost use Rattle.table_size.specs.Size.{segments_from, table_size};
 
-// `,` or `;`, by the byte's code: this compares the byte with both, sixteen at a time, where the one comparison of digits takes more for a
-// whole text.
+// `,` or `;`, by the byte's code: the byte is compared with both. The one comparison of digits multiplies first, and takes longer over a whole
+// text.
 fn is_delim(b: u8) -> bool
     ensures { result ≡ is_delim b }
 {
